@@ -1,0 +1,176 @@
+-- Sums over lists and over slots, and the counting law: an injection carries a sum to no more (the pigeonhole principle).
+-- Assumes nothing.
+use mathlib.Core.Path.{_≡_, refl, sym, ap, ap₂, _∙_, subst}
+use mathlib.Core.Logic.{_≢_, ⊎-elim}
+use mathlib.Core.Bool.{Bool, true, false, cond}
+use mathlib.Core.List.{List, [], _∷_, _++_, List·Memᴰ, List·Memᴰ·head, List·Memᴰ·tail, List·Memᴰ·not-nil, List·Memᴰ·cases-cons}
+use Prim.Native.Nat.{ℕ, zero, suc, _+_, _-_, _*_, _≤_, _<_}
+use native.Mathlib.Nat.{add-zero, zero-add, add-suc, suc-add, mul-zero, mul-add}
+use native.Mathlib.Decide.{ℕ-discrete}
+use native.Mathlib.Omega.{arith}
+use borrow.Author.Tests.{eq-eqb, ne-eqb}
+use lib.Dec.{eqb}
+use lib.ListN.{length}
+use Rattle.words.specs.Sum.{upFrom, below, total, sum}
+use Rattle.words.proofs.Bits.{at-slot}
+
+-- ---- the numbers below n
+
+pub upFrom-from : {x : ℕ} (a n : ℕ) → List·Memᴰ x (upFrom a n) → (a ≤ x) × (x < a + n)
+unfolding upFrom
+upFrom-from a zero h = absurd (List·Memᴰ·not-nil h)
+upFrom-from {x} a (suc n) h =
+    ⊎-elim {C = (a ≤ x) × (x < a + suc n)}
+    (λ q. (omega arith, omega arith))
+    (λ m. let r = upFrom-from (suc a) n m in (omega arith, omega arith))
+    (List·Memᴰ·cases-cons h)
+
+pub upFrom-into : {x : ℕ} (a n : ℕ) → a ≤ x → x < a + n → List·Memᴰ x (upFrom a n)
+unfolding upFrom
+upFrom-into a zero h k = absurd (omega arith)
+upFrom-into {x} a (suc n) h k = go (λ g. upFrom-into (suc a) n g (omega arith)) (ℕ-discrete x a)
+  where
+    go : (suc a ≤ x → List·Memᴰ x (upFrom (suc a) n)) → Dec (x ≡ a) → List·Memᴰ x (a ∷ upFrom (suc a) n)
+    go ih (yes q) = List·Memᴰ·head q
+    go ih (no q) = List·Memᴰ·tail (ih (omega arith))
+
+pub below-from : {x : ℕ} (n : ℕ) → List·Memᴰ x (below n) → x < n
+unfolding below
+below-from n h = let r = upFrom-from 0 n h in omega arith
+
+pub below-into : {x : ℕ} (n : ℕ) → x < n → List·Memᴰ x (below n)
+unfolding below
+below-into n h = upFrom-into 0 n (omega arith) (omega arith)
+
+pub length-upFrom : (a n : ℕ) → length (upFrom a n) ≡ n
+unfolding upFrom
+length-upFrom a zero = refl
+length-upFrom a (suc n) = ap suc (length-upFrom (suc a) n)
+
+pub length-below : (n : ℕ) → length (below n) ≡ n
+unfolding below
+length-below n = length-upFrom 0 n
+
+-- ---- sums over a list
+
+module _ {A : Type 0} where
+  pub total-cong : (f g : A → ℕ) (l : List A) → ((x : A) → List·Memᴰ x l → f x ≡ g x) → total f l ≡ total g l
+  unfolding total
+  total-cong f g [] h = refl
+  total-cong f g (x ∷ l) h = ap₂ _+_ (h x (List·Memᴰ·head refl)) (total-cong f g l (λ y m. h y (List·Memᴰ·tail m)))
+
+  pub total-le : (f g : A → ℕ) (l : List A) → ((x : A) → List·Memᴰ x l → f x ≤ g x) → total f l ≤ total g l
+  unfolding total
+  total-le f g [] h = omega arith
+  total-le f g (x ∷ l) h = omega (arith, h x (List·Memᴰ·head refl), total-le f g l (λ y m. h y (List·Memᴰ·tail m)))
+
+  pub total-const : (c : ℕ) (l : List A) → total (λ x. c) l ≡ length l * c
+  unfolding total
+  total-const c [] = omega arith
+  total-const c (x ∷ l) = let e = total-const c l in omega arith
+
+  pub total-add : (f g : A → ℕ) (l : List A) → total (λ x. f x + g x) l ≡ total f l + total g l
+  unfolding total
+  total-add f g [] = refl
+  total-add f g (x ∷ l) = let e = total-add f g l in omega arith
+
+  pub total-scale : (c : ℕ) (f : A → ℕ) (l : List A) → total (λ x. c * f x) l ≡ c * total f l
+  unfolding total
+  total-scale c f [] = sym (mul-zero c)
+  total-scale c f (x ∷ l) = ap (c * f x +_) (total-scale c f l) ∙ sym (mul-add c (f x) (total f l))
+
+  pub total-append : (f : A → ℕ) (l m : List A) → total f (l ++ m) ≡ total f l + total f m
+  unfolding total
+  total-append f [] m = omega arith
+  total-append f (x ∷ l) m = let e = total-append f l m in omega arith
+
+-- two sums change places
+pub total-swap : {A B : Type 0} (f : A → B → ℕ) (l : List A) (m : List B) → total (λ x. total (f x) m) l ≡ total (λ y. total (λ x. f x y) l) m
+unfolding total
+total-swap f [] m = sym (total-const 0 m ∙ mul-zero (length m))
+total-swap f (x ∷ l) m = ap (total (f x) m +_) (total-swap f l m) ∙ sym (total-add (f x) (λ y. total (λ x. f x y) l) m)
+
+-- ---- sums over slots
+
+module _ (f : ℕ → ℕ) where
+  total-last : (a n : ℕ) → total f (upFrom a (suc n)) ≡ total f (upFrom a n) + f (a + n)
+  unfolding total upFrom
+  total-last a zero = ap (λ x. f x + 0) (sym (add-zero a)) ∙ omega arith
+  total-last a (suc n) = let e = total-last (suc a) n ∙ ap (λ x. total f (upFrom (suc a) n) + f x) (suc-add a n ∙ sym (add-suc a n)) in omega (arith, e)
+
+  total-shift : (a n : ℕ) → total f (upFrom (suc a) n) ≡ total (λ i. f (suc i)) (upFrom a n)
+  unfolding total upFrom
+  total-shift a zero = refl
+  total-shift a (suc n) = ap (f (suc a) +_) (total-shift (suc a) n)
+
+  pub sum-zero : sum f 0 ≡ 0
+  unfolding sum below upFrom total
+  sum-zero = refl
+
+  -- the last slot apart, and the first
+  pub sum-suc : (n : ℕ) → sum f (suc n) ≡ sum f n + f n
+  unfolding sum below
+  sum-suc n = total-last 0 n ∙ ap (λ x. total f (upFrom 0 n) + f x) (zero-add n)
+
+  pub sum-front : (n : ℕ) → sum f (suc n) ≡ f 0 + sum (λ i. f (suc i)) n
+  unfolding sum below upFrom total
+  sum-front n = ap (f 0 +_) (total-shift 0 n)
+
+pub sum-cong : (f g : ℕ → ℕ) (n : ℕ) → ((i : ℕ) → i < n → f i ≡ g i) → sum f n ≡ sum g n
+unfolding sum
+sum-cong f g n h = total-cong f g (below n) (λ i m. h i (below-from n m))
+
+pub sum-le : (f g : ℕ → ℕ) (n : ℕ) → ((i : ℕ) → i < n → f i ≤ g i) → sum f n ≤ sum g n
+unfolding sum
+sum-le f g n h = total-le f g (below n) (λ i m. h i (below-from n m))
+
+pub sum-add : (f g : ℕ → ℕ) (n : ℕ) → sum (λ i. f i + g i) n ≡ sum f n + sum g n
+unfolding sum
+sum-add f g n = total-add f g (below n)
+
+pub sum-none : (f : ℕ → ℕ) (n : ℕ) → ((i : ℕ) → i < n → f i ≡ 0) → sum f n ≡ 0
+unfolding sum
+sum-none f n h = sum-cong f (λ i. 0) n h ∙ total-const 0 (below n) ∙ mul-zero (length (below n))
+
+-- g is f but for slot j, where it is 0
+pub sum-pick : (f g : ℕ → ℕ) (n j : ℕ) → j < n → g j ≡ 0 → ((i : ℕ) → i ≢ j → g i ≡ f i) → sum f n ≡ f j + sum g n
+sum-pick f g zero j l z h = absurd (omega arith)
+sum-pick f g (suc n) j l z h = go (ℕ-discrete n j) (λ m. sum-pick f g n j m z h)
+  where
+    go : Dec (n ≡ j) → (j < n → sum f n ≡ f j + sum g n) → sum f (suc n) ≡ f j + sum g (suc n)
+    go (yes e) ih =
+        let same = sum-cong f g n (λ i m. sym (h i (omega arith))) in
+        omega (arith, sum-suc f n, sum-suc g n, ap f e, ap g e)
+    go (no d) ih = omega (arith, sum-suc f n, sum-suc g n, h n d, ih (omega arith))
+
+-- f with 0 at slot j
+unfoldable pub except : (ℕ → ℕ) → ℕ → ℕ → ℕ
+except f j i = cond (eqb i j) 0 (f i)
+
+pub except-at : (f : ℕ → ℕ) (j : ℕ) → except f j j ≡ 0
+unfolding except
+except-at f j = ap (λ b. cond b 0 (f j)) (eq-eqb j j refl)
+
+pub except-other : (f : ℕ → ℕ) (j i : ℕ) → i ≢ j → except f j i ≡ f i
+unfolding except
+except-other f j i d = ap (λ b. cond b 0 (f i)) (ne-eqb i j d)
+
+pub sum-except : (f : ℕ → ℕ) (n j : ℕ) → j < n → sum f n ≡ f j + sum (except f j) n
+sum-except f n j l = sum-pick f (except f j) n j l (except-at f j) (except-other f j)
+
+-- The counting law. p carries each index below n at which g is above 0 to one below m, no two to the same, and g there is at
+-- most f where p carries it.
+pub sum-injection : (n m : ℕ) (g f p : ℕ → ℕ) → ((i : ℕ) → i < n → g i ≢ 0 → p i < m) → ((i : ℕ) → i < n → g i ≢ 0 → g i ≤ f (p i))
+    → ((i k : ℕ) → i < n → k < n → g i ≢ 0 → g k ≢ 0 → p i ≡ p k → i ≡ k) → sum g n ≤ sum f m
+sum-injection zero m g f p into most apart = omega (arith, sum-zero g)
+sum-injection (suc n) m g f p into most apart =
+    go (ℕ-discrete (g n) 0)
+    (λ f′ most′. sum-injection n m g f′ p (λ i h. into i (omega arith)) most′ (λ i k h h′. apart i k (omega arith) (omega arith)))
+  where
+    go : Dec (g n ≡ 0) → ((f′ : ℕ → ℕ) → ((i : ℕ) → i < n → g i ≢ 0 → g i ≤ f′ (p i)) → sum g n ≤ sum f′ m) → sum g (suc n) ≤ sum f m
+    go (yes z) ih = omega (arith, sum-suc g n, ih f (λ i h. most i (omega arith)))
+    go (no z) ih =
+        let rest = ih (except f (p n)) (λ i h y.
+        let d : p i ≢ p n = λ e. let q = apart i n (omega arith) (omega arith) y z e in omega arith in
+        omega (arith, most i (omega arith) y, except-other f (p n) (p i) d)) in
+        omega (arith, sum-suc g n, sum-except f m (p n) (into n (omega arith) z), most n (omega arith) z)
