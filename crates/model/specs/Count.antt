@@ -1,0 +1,36 @@
+-- The number of complete plans, the permanent of the table, and the subset counts (document 01's tally). Assumes nothing.
+use mathlib.Core.List.{List, [], _∷_, map}
+use Prim.Native.Nat.{ℕ, _*_, _^_}
+use lib.Count.{ones}
+use lib.ListN.{length, take}
+use Rattle.words.specs.Word.{bit}
+use Rattle.model.specs.Sets.{members}
+use Rattle.words.specs.Sum.{below, total}
+use Rattle.model.specs.Plans.{arrangements, matchings, plans}
+
+-- document 01's count
+unfoldable pub count : ℕ → List ℕ → ℕ
+unfolding plans
+count m opens = length (plans m opens)
+
+-- the product of the entries that an arrangement takes, one of each row
+unfoldable pub product : List ℕ → List ℕ → ℕ
+unfolding bit
+product [] p = 1
+product (w ∷ opens) [] = 1
+product (w ∷ opens) (s ∷ p) = bit w s * product opens p
+
+-- the permanent of the table of zeros and ones with a row for each item and m columns
+unfoldable pub permanent : ℕ → List ℕ → ℕ
+unfolding total product arrangements below
+permanent m opens = total (product opens) (arrangements (length opens) (below m))
+
+-- the number of ways to give the slots of a set, all of them, to the first items, as many as the set has bits
+unfoldable pub subsetCount : ℕ → List ℕ → ℕ → ℕ
+unfolding matchings ones members
+subsetCount m opens set = length (matchings (take (ones set) opens) (ones set) (members m set))
+
+-- the words that a count writes
+unfoldable pub subsetCounts : ℕ → List ℕ → List ℕ
+unfolding subsetCount below
+subsetCounts m opens = map (subsetCount m opens) (below (2 ^ m))

@@ -1,0 +1,14 @@
+pub mod Lists
+pub mod Sets
+pub mod Rota
+pub mod Plans
+pub mod Fewest
+pub mod Allowed
+pub mod Deficiency
+pub mod Count
+pub mod Grade
+pub mod File
+pub mod Answers
+pub mod Enumerator
+pub mod Demand3
+pub mod Rows

@@ -1,0 +1,97 @@
+-- The rows marked P of document 01, and T's file: one table of equations that antt computes. Assumes nothing.
+use mathlib.Core.Path.{_≡_, refl}
+use mathlib.Core.List.{List, [], _∷_, _++_, map}
+use Prim.Native.Nat.{ℕ, _+_, _*_}
+use lib.ListN.{length, getD, replicate}
+use Rattle.model.specs.declared.Plan.{Plan}
+use Rattle.model.specs.Plans.{plans, padded, blank}
+use Rattle.model.specs.Allowed.{allowedWords}
+use Rattle.model.specs.Count.{permanent, subsetCounts}
+use Rattle.model.specs.File.{fileBytes, fileCode, itemsIn, opensIn, calloutsIn}
+use Rattle.model.specs.Answers.{firstAnswer, nextAnswer, fewestAnswer, countAnswer, gradeAnswer, priceAnswer, given, refused, overCap, deficient}
+
+abbrev T-opens : List ℕ
+T-opens = 3 ∷ 7 ∷ 6 ∷ []
+
+abbrev T-callouts : List ℕ
+T-callouts = 1 ∷ 0 ∷ 4 ∷ []
+
+-- 7, 6, 6; none
+abbrev two-opens : List ℕ
+two-opens = 7 ∷ 6 ∷ 6 ∷ []
+
+abbrev none : ℕ → List ℕ
+none n = replicate n 0
+
+-- a plan of three items
+abbrev slots : ℕ → ℕ → ℕ → List ℕ
+slots a b c = a ∷ b ∷ c ∷ replicate 61 0
+
+pub record Rows : Type 0 where
+  pub T-plans : plans 3 T-opens ≡ slots 0 1 2 ∷ slots 0 2 1 ∷ slots 1 0 2 ∷ []
+  pub T-count : countAnswer 3 3 T-opens T-callouts 8 ≡ record { code = 0; count = 3 }
+  pub T-cap-1 : fewestAnswer 3 3 T-opens T-callouts 1 ≡ given (slots 0 2 1) 1
+  pub T-cap-0 : fewestAnswer 3 3 T-opens T-callouts 0 ≡ overCap 1
+  pub T-grade : gradeAnswer 3 3 T-opens T-callouts 8 ≡ record { code = 0; grade = 3; shortage = 0; items = 0 }
+  pub T-price : priceAnswer 3 3 T-opens T-callouts 100 8 ≡ record { code = 0; shortage = 0; items = 0; cents = 285 * 100 + 4500 }
+  pub T-cents : _≡_ {A = ℕ} (285 * 100 + 4500) 33000
+  pub two-plans : plans 3 two-opens ≡ slots 0 1 2 ∷ slots 0 2 1 ∷ []
+  pub two-usable : allowedWords 3 two-opens ≡ 1 ∷ 6 ∷ 6 ∷ []
+  pub two-grade : gradeAnswer 3 3 two-opens (none 3) 8 ≡ record { code = 0; grade = 3; shortage = 0; items = 0 }
+  pub short-four : firstAnswer 4 4 (1 ∷ 1 ∷ 2 ∷ 14 ∷ []) (none 4) ≡ record { code = 9; shortage = 1; items = 3; callouts = 0; plan = record { slots = blank } }
+  pub short-two : firstAnswer 2 2 (0 ∷ 3 ∷ []) (none 2) ≡ record { code = 9; shortage = 1; items = 1; callouts = 0; plan = record { slots = blank } }
+  pub one-plan : plans 1 (1 ∷ []) ≡ (0 ∷ replicate 63 0) ∷ []
+  pub one-count : countAnswer 1 1 (1 ∷ []) (none 1) 2 ≡ record { code = 0; count = 1 }
+  pub one-grade : gradeAnswer 1 1 (1 ∷ []) (none 1) 2 ≡ record { code = 0; grade = 1; shortage = 0; items = 0 }
+  pub none-usable : allowedWords 1 (0 ∷ []) ≡ 0 ∷ []
+  pub none-count : countAnswer 1 1 (0 ∷ []) (none 1) 2 ≡ record { code = 0; count = 0 }
+  pub none-first : firstAnswer 1 1 (0 ∷ []) (none 1) ≡ record { code = 9; shortage = 1; items = 1; callouts = 0; plan = record { slots = blank } }
+  pub T-last : nextAnswer 3 3 T-opens T-callouts (record { slots = slots 1 0 2 }) ≡ refused 10
+
+pub rows : Rows
+unfolding plans countAnswer fewestAnswer gradeAnswer priceAnswer allowedWords firstAnswer nextAnswer
+rows =
+    record {
+      T-plans = refl;
+      T-count = refl;
+      T-cap-1 = refl;
+      T-cap-0 = refl;
+      T-grade = refl;
+      T-price = refl;
+      T-cents = refl;
+      two-plans = refl;
+      two-usable = refl;
+      two-grade = refl;
+      short-four = refl;
+      short-two = refl;
+      one-plan = refl;
+      one-count = refl;
+      one-grade = refl;
+      none-usable = refl;
+      none-count = refl;
+      none-first = refl;
+      T-last = refl;
+    }
+
+-- T's file is one block, its check 338: byte 510 is 82 and byte 511 is 1; and back
+pub record File : Type 0 where
+  pub size : length (fileBytes 3 T-opens T-callouts) ≡ 512
+  pub check-low : getD (fileBytes 3 T-opens T-callouts) 510 0 ≡ 82
+  pub check-high : getD (fileBytes 3 T-opens T-callouts) 511 0 ≡ 1
+  pub accepted : fileCode (fileBytes 3 T-opens T-callouts) ≡ 0
+  pub items : itemsIn (fileBytes 3 T-opens T-callouts) ≡ 3
+  pub opens : opensIn (fileBytes 3 T-opens T-callouts) ≡ T-opens
+  pub callouts : calloutsIn (fileBytes 3 T-opens T-callouts) ≡ T-callouts
+
+pub file : File
+unfolding fileBytes fileCode itemsIn opensIn calloutsIn
+file = record { size = refl; check-low = refl; check-high = refl; accepted = refl; items = refl; opens = refl; callouts = refl }
+
+-- T's tally, lent ten words, and its permanent
+pub T-tally : subsetCounts 3 T-opens ≡ 1 ∷ 1 ∷ 1 ∷ 2 ∷ 0 ∷ 1 ∷ 1 ∷ 3 ∷ []
+unfolding subsetCounts
+T-tally = refl
+
+pub T-permanent : permanent 3 T-opens ≡ 3
+unfolding permanent
+T-permanent = refl
