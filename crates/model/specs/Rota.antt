@@ -6,7 +6,7 @@ use mathlib.Core.List.{List, [], _∷_}
 use Prim.Native.Nat.{ℕ, _^_, _≤_, _<_}
 use lib.Dec.{eqb, ltb, leb}
 use lib.ListN.{length, getD}
-use Rattle.words.specs.Word.{bit, minus}
+use Rattle.words.specs.Word.{minus}
 use Rattle.model.specs.Lists.{any}
 
 -- some item has a callout bit where its cell is not open; items beyond either table have none
@@ -39,4 +39,4 @@ pub record Accepted (n m : ℕ) (opens callouts : List ℕ) : Type 0 where
   pub open-words : length opens ≡ n
   pub callout-words : length callouts ≡ n
   pub open-range : (i : ℕ) → i < n → getD opens i 0 < 2 ^ m
-  pub callout-open : (i j : ℕ) → i < n → j < 64 → bit (getD callouts i 0) j ≤ bit (getD opens i 0) j
+  pub callout-open : (i : ℕ) → i < n → minus (getD callouts i 0) (getD opens i 0) ≡ 0

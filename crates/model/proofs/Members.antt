@@ -1,0 +1,169 @@
+-- Tests and members: of what passes a test, of a list with one number taken out, of lists put together. Assumes nothing.
+use mathlib.Core.Path.{_≡_, refl, sym, ap, ap₂, _∙_, subst}
+use mathlib.Core.Logic.{_≢_, _⊎_, inl, inr, ⊎-elim}
+use mathlib.Core.Bool.{Bool, true, false, not, cond, _&&_, _||_}
+use mathlib.Core.List.{List, [], _∷_, _++_, map, flatMap, List·Memᴰ, List·Memᴰ·head, List·Memᴰ·tail, List·Memᴰ·not-nil, List·Memᴰ·cases-cons, List·Memᴰ·append-cases, Memᴰ·append-left, Memᴰ·append-right}
+use Prim.Native.Nat.{ℕ, zero, suc, _+_, _<_, _≤_}
+use native.Mathlib.Omega.{arith}
+use borrow.Author.Tests.{eq-eqb}
+use lib.Dec.{T, eqb, eqb→eq, eqb-refl, T-not, not-T}
+use lib.ListN.{length, getD}
+use Rattle.model.specs.Lists.{keep, any, remove, same}
+
+-- ---- tests
+
+pub is-true : (b : Bool) → T b → b ≡ true
+is-true true t = refl
+is-true false t = absurd t
+
+pub is-false : (b : Bool) → (T b → ⊥) → b ≡ false
+is-false true f = absurd (f tt)
+is-false false f = refl
+
+pub both : (a b : Bool) → T a → T b → T (a && b)
+both true b s t = t
+both false b s t = s
+
+pub both-left : (a b : Bool) → T (a && b) → T a
+both-left true b t = tt
+both-left false b t = t
+
+pub both-right : (a b : Bool) → T (a && b) → T b
+both-right true b t = t
+both-right false b t = absurd t
+
+pub or-left : (a b : Bool) → T a → T (a || b)
+or-left true b t = tt
+or-left false b t = absurd t
+
+pub or-right : (a b : Bool) → T b → T (a || b)
+or-right true b t = tt
+or-right false b t = t
+
+pub or-cases : (a b : Bool) → T (a || b) → T a ⊎ T b
+or-cases true b t = inl tt
+or-cases false b t = inr t
+
+pub neither : (a b : Bool) → (a || b) ≡ false → (a ≡ false) × (b ≡ false)
+neither true b e = absurd (subst T e tt)
+neither false b e = (refl, e)
+
+pub same-refl : (l : List ℕ) → T (same l l)
+unfolding same
+same-refl [] = tt
+same-refl (x ∷ l) = rw (eq-eqb x x refl) (same-refl l)
+
+pub same-eq : (l m : List ℕ) → T (same l m) → l ≡ m
+unfolding same
+same-eq [] [] t = refl
+same-eq [] (y ∷ m) t = absurd t
+same-eq (x ∷ l) [] t = absurd t
+same-eq (x ∷ l) (y ∷ m) t = ap₂ _∷_ (eqb→eq x y (both-left (eqb x y) (same l m) t)) (same-eq l m (both-right (eqb x y) (same l m) t))
+
+-- ---- what passes a test
+
+module _ {A : Type 0} (f : A → Bool) where
+  pub keep-from : {x : A} (l : List A) → List·Memᴰ x (keep f l) → List·Memᴰ x l × T (f x)
+  unfolding keep
+  keep-from [] h = absurd (List·Memᴰ·not-nil h)
+  keep-from {x} (y ∷ l) h = go (f y) refl (keep-from l) h
+    where
+      go : (b : Bool) → f y ≡ b → (List·Memᴰ x (keep f l) → List·Memᴰ x l × T (f x)) → List·Memᴰ x (cond b (y ∷ keep f l) (keep f l)) → List·Memᴰ x (y ∷ l) × T (f x)
+      go true e ih h =
+          ⊎-elim (λ q. (List·Memᴰ·head q, subst T (sym (ap f q ∙ e)) tt)) (λ m. (List·Memᴰ·tail (ih m .0), ih m .1)) (List·Memᴰ·cases-cons h)
+      go false e ih h = (List·Memᴰ·tail (ih h .0), ih h .1)
+
+  pub keep-into : {x : A} (l : List A) → List·Memᴰ x l → T (f x) → List·Memᴰ x (keep f l)
+  unfolding keep
+  keep-into [] h t = absurd (List·Memᴰ·not-nil h)
+  keep-into {x} (y ∷ l) h t = go (f y) refl (λ m. keep-into l m t) (List·Memᴰ·cases-cons h)
+    where
+      go : (b : Bool) → f y ≡ b → (List·Memᴰ x l → List·Memᴰ x (keep f l)) → (x ≡ y) ⊎ List·Memᴰ x l → List·Memᴰ x (cond b (y ∷ keep f l) (keep f l))
+      go true e ih (inl q) = List·Memᴰ·head q
+      go true e ih (inr m) = List·Memᴰ·tail (ih m)
+      go false e ih (inl q) = absurd (subst T (ap f q ∙ e) t)
+      go false e ih (inr m) = ih m
+
+  pub keep-all : (l : List A) → ((x : A) → List·Memᴰ x l → f x ≡ true) → keep f l ≡ l
+  unfolding keep
+  keep-all [] h = refl
+  keep-all (x ∷ l) h =
+      ap (λ b. cond b (x ∷ keep f l) (keep f l)) (h x (List·Memᴰ·head refl)) ∙ ap (x ∷_) (keep-all l (λ y m. h y (List·Memᴰ·tail m)))
+
+  pub keep-le : (l : List A) → length (keep f l) ≤ length l
+  unfolding keep
+  keep-le [] = omega arith
+  keep-le (x ∷ l) = go (f x) (keep-le l)
+    where
+      go : (b : Bool) → length (keep f l) ≤ length l → length (cond b (x ∷ keep f l) (keep f l)) ≤ suc (length l)
+      go true h = omega arith
+      go false h = omega arith
+
+  pub any-into : {x : A} (l : List A) → List·Memᴰ x l → T (f x) → T (any f l)
+  unfolding any
+  any-into [] h t = absurd (List·Memᴰ·not-nil h)
+  any-into (y ∷ l) h t =
+      ⊎-elim (λ e. or-left (f y) (any f l) (subst (λ z. T (f z)) e t)) (λ k. or-right (f y) (any f l) (any-into l k t)) (List·Memᴰ·cases-cons h)
+
+  pub any-from : (l : List A) → T (any f l) → (x : A) × List·Memᴰ x l × T (f x)
+  unfolding any
+  any-from [] t = absurd t
+  any-from (y ∷ l) t =
+      ⊎-elim {C = (x : A) × List·Memᴰ x (y ∷ l) × T (f x)}
+      (λ s. (y, List·Memᴰ·head refl, s))
+      (λ s. let r = any-from l s in (r .0, List·Memᴰ·tail (r .1), r .2))
+      (or-cases (f y) (any f l) t)
+
+  pub any-none : (d : A) (l : List A) → any f l ≡ false → (i : ℕ) → i < length l → f (getD l i d) ≡ false
+  unfolding any
+  any-none d [] e i h = absurd (omega arith)
+  any-none d (x ∷ l) e zero h = neither (f x) (any f l) e .0
+  any-none d (x ∷ l) e (suc i) h = any-none d l (neither (f x) (any f l) e .1) i (omega arith)
+
+-- ---- one number taken out
+
+pub remove-from : {x : ℕ} (s : ℕ) (l : List ℕ) → List·Memᴰ x (remove s l) → List·Memᴰ x l × (s ≢ x)
+unfolding remove
+remove-from {x} s l h =
+    let r = keep-from (λ x. not (eqb s x)) l h in
+    (r .0, λ q. T-not (eqb s x) (r .1) (subst (λ y. T (eqb s y)) q (eqb-refl s)))
+
+pub remove-into : {x : ℕ} (s : ℕ) (l : List ℕ) → List·Memᴰ x l → s ≢ x → List·Memᴰ x (remove s l)
+unfolding remove
+remove-into {x} s l h q = keep-into (λ x. not (eqb s x)) l h (not-T (eqb s x) (λ t. q (eqb→eq s x t)))
+
+-- ---- lists put together
+
+module _ {A B : Type 0} (f : A → List B) where
+  pub flatMap-from : {y : B} (l : List A) → List·Memᴰ y (flatMap f l) → (x : A) × List·Memᴰ x l × List·Memᴰ y (f x)
+  unfolding flatMap
+  flatMap-from [] h = absurd (List·Memᴰ·not-nil h)
+  flatMap-from {y} (a ∷ l) h =
+      ⊎-elim {C = (x : A) × List·Memᴰ x (a ∷ l) × List·Memᴰ y (f x)}
+      (λ m. (a, List·Memᴰ·head refl, m))
+      (λ m. let r = flatMap-from l m in (r .0, List·Memᴰ·tail (r .1), r .2))
+      (List·Memᴰ·append-cases (f a) h)
+
+  pub flatMap-into : {y : B} {x : A} (l : List A) → List·Memᴰ x l → List·Memᴰ y (f x) → List·Memᴰ y (flatMap f l)
+  unfolding flatMap
+  flatMap-into [] h m = absurd (List·Memᴰ·not-nil h)
+  flatMap-into {y} {x} (a ∷ l) h m =
+      ⊎-elim {C = List·Memᴰ y (f a ++ flatMap f l)}
+      (λ q. Memᴰ·append-left (flatMap f l) (subst (λ z. List·Memᴰ y (f z)) q m))
+      (λ k. Memᴰ·append-right (f a) (flatMap-into l k m))
+      (List·Memᴰ·cases-cons h)
+
+-- ---- by index
+
+pub mem-at : {A : Type 0} (d : A) (l : List A) (i : ℕ) → i < length l → List·Memᴰ (getD l i d) l
+mem-at d [] i h = absurd (omega arith)
+mem-at d (x ∷ l) zero h = List·Memᴰ·head refl
+mem-at d (x ∷ l) (suc i) h = List·Memᴰ·tail (mem-at d l i (omega arith))
+
+pub place-of : {A : Type 0} {x : A} (d : A) (l : List A) → List·Memᴰ x l → (i : ℕ) × (i < length l) × (getD l i d ≡ x)
+place-of d [] h = absurd (List·Memᴰ·not-nil h)
+place-of {A} {x} d (y ∷ l) h =
+    ⊎-elim {C = (i : ℕ) × (i < length (y ∷ l)) × (getD (y ∷ l) i d ≡ x)}
+    (λ e. (0, omega arith, sym e))
+    (λ m. let r = place-of d l m in (suc (r .0), omega arith, r .2))
+    (List·Memᴰ·cases-cons h)
