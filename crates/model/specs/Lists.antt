@@ -24,16 +24,11 @@ unfoldable pub greatest : List ℕ → ℕ
 greatest [] = 0
 greatest (x ∷ l) = max x (greatest l)
 
--- the least number of x and a list
-unfoldable pub leastFrom : ℕ → List ℕ → ℕ
-leastFrom x [] = x
-leastFrom x (y ∷ l) = leastFrom (min x y) l
-
 -- the least number of a list, 0 for the empty one
 unfoldable pub least : List ℕ → ℕ
-unfolding leastFrom
 least [] = 0
-least (x ∷ l) = leastFrom x l
+least (x ∷ []) = x
+least (x ∷ y ∷ l) = min x (least (y ∷ l))
 
 -- the first number of a list, 0 for the empty one
 unfoldable pub first : List ℕ → ℕ
