@@ -6,3 +6,4 @@ pub mod Accepted
 pub mod Plans
 pub mod Permanent
 pub mod Deficiency
+pub mod Allowed

@@ -3,14 +3,14 @@
 use mathlib.Core.Path.{_≡_, refl, sym, ap, ap₂, _∙_, subst}
 use mathlib.Core.Logic.{_≢_, ⊎-elim}
 use mathlib.Core.Bool.{Bool, true, false, cond}
-use mathlib.Core.List.{List, [], _∷_, _++_, List·Memᴰ, List·Memᴰ·head, List·Memᴰ·tail, List·Memᴰ·not-nil, List·Memᴰ·cases-cons}
+use mathlib.Core.List.{List, [], _∷_, _++_, map, List·Memᴰ, List·Memᴰ·head, List·Memᴰ·tail, List·Memᴰ·not-nil, List·Memᴰ·cases-cons}
 use Prim.Native.Nat.{ℕ, zero, suc, _+_, _-_, _*_, _≤_, _<_}
 use native.Mathlib.Nat.{add-zero, zero-add, add-suc, suc-add, mul-zero, mul-add}
 use native.Mathlib.Decide.{ℕ-discrete}
 use native.Mathlib.Omega.{arith}
 use borrow.Author.Tests.{eq-eqb, ne-eqb}
 use lib.Dec.{eqb}
-use lib.ListN.{length}
+use lib.ListN.{length, getD, length-map}
 use Rattle.words.specs.Sum.{upFrom, below, total, sum}
 use Rattle.words.proofs.Bits.{at-slot}
 
@@ -50,6 +50,20 @@ length-upFrom a (suc n) = ap suc (length-upFrom (suc a) n)
 pub length-below : (n : ℕ) → length (below n) ≡ n
 unfolding below
 length-below n = length-upFrom 0 n
+
+map-upFrom : {A : Type 0} (f : ℕ → A) (d : A) (a n i : ℕ) → i < n → getD (map f (upFrom a n)) i d ≡ f (a + i)
+unfolding upFrom
+map-upFrom f d a zero i h = absurd (omega arith)
+map-upFrom f d a (suc n) zero h = ap f (sym (add-zero a))
+map-upFrom f d a (suc n) (suc i) h = map-upFrom f d (suc a) n i (omega arith) ∙ ap f (suc-add a i ∙ sym (add-suc a i))
+
+-- a table made from a function
+pub map-below : {A : Type 0} (f : ℕ → A) (d : A) (n i : ℕ) → i < n → getD (map f (below n)) i d ≡ f i
+unfolding below
+map-below f d n i h = map-upFrom f d 0 n i h ∙ ap f (zero-add i)
+
+pub length-map-below : {A : Type 0} (f : ℕ → A) (n : ℕ) → length (map f (below n)) ≡ n
+length-map-below f n = length-map (below n) f ∙ length-below n
 
 -- ---- sums over a list
 

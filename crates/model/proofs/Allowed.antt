@@ -1,0 +1,109 @@
+-- The allowed slots: which plans stand behind a bit; equal listings exactly if equal allowed words. Assumes nothing.
+use mathlib.Core.Path.{_≡_, refl, sym, ap, ap₂, _∙_, subst}
+use mathlib.Core.Logic.{_⊎_, inl, inr, _↔_}
+use mathlib.Core.List.{List, [], _∷_, map, List·Memᴰ, Memᴰ·map, Memᴰ·of-map}
+use Prim.Native.Nat.{ℕ, _^_, _<_, _≤_}
+use native.Mathlib.Omega.{arith}
+use native.Mathlib.Decide.{ℕ-discrete}
+use lib.ListN.{length, getD, replicate, length-replicate, getD-replicate}
+use lib.Pow.{pow-lt}
+use lib.Seq.{ext-getD}
+use Rattle.words.specs.Word.{bit}
+use Rattle.words.specs.Sum.{below}
+use Rattle.words.proofs.Bits.{ext, bit-lt, bit-cases, bit-single, bit-single-other, bit-one-lt}
+use Rattle.words.proofs.Sums.{map-below, length-map-below}
+use Rattle.model.specs.Sets.{union}
+use Rattle.model.specs.Plans.{plans, IsPlan}
+use Rattle.model.specs.Allowed.{allowedWord, allowedWords}
+use Rattle.model.proofs.Order.{rising-same}
+use Rattle.model.proofs.Sets.{union-into, union-from, union-lt}
+use Rattle.model.proofs.Plans.{plans-rise, plan-from, plan-into}
+
+module _ (m : ℕ) (opens : List ℕ) where
+  pub length-allowed : length (allowedWords m opens) ≡ length opens
+  unfolding allowedWords
+  length-allowed = length-map-below (allowedWord m opens) (length opens)
+
+  pub allowed-at : (i : ℕ) → i < length opens → getD (allowedWords m opens) i 0 ≡ allowedWord m opens i
+  unfolding allowedWords
+  allowed-at i h = map-below (allowedWord m opens) 0 (length opens) i h
+
+  -- no plan, no allowed cell
+  pub none-allowed : plans m opens ≡ [] → allowedWords m opens ≡ replicate (length opens) 0
+  unfolding allowedWord union
+  none-allowed e =
+      ext-getD 0 (allowedWords m opens) (replicate (length opens) 0) (length-allowed ∙ sym (length-replicate (length opens) 0)) (λ i l.
+      let h : i < length opens = omega (arith, length-allowed) in
+      allowed-at i h ∙ ap (λ k. union (map (λ p. 2 ^ getD p i 0) k)) e ∙ sym (getD-replicate (length opens) i 0 0 h))
+
+  module _ (few : length opens ≤ 64) (range : (i : ℕ) → i < length opens → getD opens i 0 < 2 ^ m) where
+    pub allowed-into : (p : List ℕ) → IsPlan opens p → (i : ℕ) → bit (allowedWord m opens i) (getD p i 0) ≡ 1
+    unfolding allowedWord
+    allowed-into p P i =
+        let s = getD p i 0 in
+        omega (
+          arith,
+          bit-single s,
+          bit-lt (allowedWord m opens i) s,
+          union-into (map (λ p. 2 ^ getD p i 0) (plans m opens)) (Memᴰ·map (λ p. 2 ^ getD p i 0) (plan-into m opens few range p P)) s,
+        )
+
+    pub allowed-from : (i j : ℕ) → bit (allowedWord m opens i) j ≡ 1 → (p : List ℕ) × IsPlan opens p × (getD p i 0 ≡ j)
+    unfolding allowedWord
+    allowed-from i j e =
+        let r = union-from (map (λ p. 2 ^ getD p i 0) (plans m opens)) j e in
+        let q = Memᴰ·of-map (λ p. 2 ^ getD p i 0) (plans m opens) (r .1) in
+        (q .0, plan-from m opens few range (q .0) (q .1), slot (getD (q .0) i 0) (subst (λ w. bit w j ≡ 1) (sym (q .2)) (r .2)) (ℕ-discrete j (getD (q .0) i 0)))
+      where
+        slot : (s : ℕ) → bit (2 ^ s) j ≡ 1 → Dec (j ≡ s) → s ≡ j
+        slot s o (yes e) = sym e
+        slot s o (no d) = absurd (omega (arith, bit-single-other s j d))
+
+    allowed-lt : (i : ℕ) → i < length opens → allowedWord m opens i < 2 ^ m
+    unfolding allowedWord
+    allowed-lt i h =
+        union-lt m (map (λ p. 2 ^ getD p i 0) (plans m opens)) (λ w l.
+        let q = Memᴰ·of-map (λ p. 2 ^ getD p i 0) (plans m opens) l in
+        let P = plan-from m opens few range (q .0) (q .1) in
+        subst (λ x. x < 2 ^ m) (q .2) (pow-lt (bit-one-lt m (getD opens i 0) (getD (q .0) i 0) (range i h) (P .open-cell i h))))
+
+    -- what a search has to show of a word
+    pub allowed-by : (i u : ℕ) → i < length opens → u < 2 ^ m → ((j : ℕ) → bit u j ≡ 1 → (p : List ℕ) × IsPlan opens p × (getD p i 0 ≡ j))
+        → ((p : List ℕ) → IsPlan opens p → bit u (getD p i 0) ≡ 1) → allowedWord m opens i ≡ u
+    allowed-by i u h lt some all = ext m (allowedWord m opens i) u (allowed-lt i h) lt (λ j l. same j (bit-cases (allowedWord m opens i) j) (bit-cases u j))
+      where
+        same : (j : ℕ) → (bit (allowedWord m opens i) j ≡ 0) ⊎ (bit (allowedWord m opens i) j ≡ 1) → (bit u j ≡ 0) ⊎ (bit u j ≡ 1) → bit (allowedWord m opens i) j ≡ bit u j
+        same j (inl a) (inl b) = a ∙ sym b
+        same j (inr a) (inr b) = a ∙ sym b
+        same j (inl a) (inr b) = let r = some j b in absurd (omega (arith, subst (λ s. bit (allowedWord m opens i) s ≡ 1) (r .2) (allowed-into (r .0) (r .1) i)))
+        same j (inr a) (inl b) = let r = allowed-from i j a in absurd (omega (arith, subst (λ s. bit u s ≡ 1) (r .2) (all (r .0) (r .1))))
+
+-- ---- two rotas
+
+-- a plan of one rota is one of the other, where each of its cells is allowed there
+crossing : (m : ℕ) (opens opens′ : List ℕ) → length opens ≤ 64 → length opens′ ≡ length opens
+    → ((i : ℕ) → i < length opens → getD opens i 0 < 2 ^ m) → ((i : ℕ) → i < length opens′ → getD opens′ i 0 < 2 ^ m)
+    → allowedWords m opens ≡ allowedWords m opens′ → (p : List ℕ) → IsPlan opens p → IsPlan opens′ p
+crossing m opens opens′ few e range range′ w p P =
+    record {
+      sized = P .sized;
+      open-cell = λ i l.
+          let h : i < length opens = omega arith in
+          let same = sym (allowed-at m opens i h) ∙ ap (λ x. getD x i 0) w ∙ allowed-at m opens′ i l in
+          let r = allowed-from m opens′ (omega arith) range′ i (getD p i 0) (ap (λ x. bit x (getD p i 0)) (sym same) ∙ allowed-into m opens few range p P i) in
+          subst (λ s. bit (getD opens′ i 0) s ≡ 1) (r .2) (r .1 .open-cell i l);
+      once = λ i k l g. P .once i k (omega arith) (omega arith);
+      zeros = λ i l. P .zeros i (omega arith);
+    }
+
+pub same-listing : (m : ℕ) (opens opens′ : List ℕ) → length opens ≤ 64 → length opens′ ≡ length opens
+    → ((i : ℕ) → i < length opens → getD opens i 0 < 2 ^ m) → ((i : ℕ) → i < length opens′ → getD opens′ i 0 < 2 ^ m)
+    → (plans m opens ≡ plans m opens′) ↔ (allowedWords m opens ≡ allowedWords m opens′)
+unfolding allowedWords allowedWord
+same-listing m opens opens′ few e range range′ = (
+  λ q. ap₂ (λ k l. map (λ i. union (map (λ p. 2 ^ getD p i 0) l)) (below k)) (sym e) q,
+  λ w.
+      rising-same (plans m opens) (plans m opens′) (plans-rise m opens) (plans-rise m opens′)
+      (λ p h. plan-into m opens′ (omega arith) range′ p (crossing m opens opens′ few e range range′ w p (plan-from m opens few range p h)))
+      (λ p h. plan-into m opens few range p (crossing m opens′ opens (omega arith) (sym e) range′ range (sym w) p (plan-from m opens′ (omega arith) range′ p h))),
+)
