@@ -7,3 +7,4 @@ pub mod Plans
 pub mod Permanent
 pub mod Deficiency
 pub mod Allowed
+pub mod Laws

@@ -1,0 +1,163 @@
+-- What a search has to show of a plan for it to be the answer. No proof of a program opens the list of plans: it cites these laws.
+-- Assumes nothing.
+use mathlib.Core.Path.{_≡_, refl, sym, ap, ap₂, _∙_, subst}
+use mathlib.Core.Logic.{_⊎_, inl, inr, ⊎-elim}
+use mathlib.Core.Bool.{Bool, true, false, cond}
+use mathlib.Core.List.{List, [], _∷_, map, List·Memᴰ, List·Memᴰ·head, List·Memᴰ·not-nil}
+use Prim.Native.Nat.{ℕ, zero, suc, _^_, _<_, _≤_}
+use native.Mathlib.Omega.{arith}
+use lib.Dec.{T, eqb, leb, eqb→eq, eqb-refl}
+use lib.ListN.{length, getD}
+use Rattle.model.specs.declared.Plan.{Plan}
+use Rattle.model.specs.Lists.{keep, any, same, before, least}
+use Rattle.model.specs.Rota.{tableCode, Accepted}
+use Rattle.model.specs.Plans.{plans, isPlan, plansAfter, IsPlan}
+use Rattle.model.specs.Fewest.{calloutsOf, fewest, fewestPlans}
+use Rattle.model.specs.Count.{count}
+use Rattle.model.specs.Answers.{unless, refused, deficient, overCap, given, firstOf, firstAnswer, nextOf, nextAnswer, fewestOf, fewestAnswer}
+use Rattle.model.proofs.Members.{is-true, is-false, same-refl, same-eq, keep-from, keep-into, any-into, any-from}
+use Rattle.model.proofs.Order.{Before, chain-keep, least-is-head}
+use Rattle.model.proofs.Extremes.{least-is}
+use Rattle.model.proofs.Accepted.{accepted}
+use Rattle.model.proofs.Plans.{plans-rise, plan-from, plan-into}
+
+-- no other plan stands before p
+abbrev pub IsLeast : List ℕ → List ℕ → Type 0
+IsLeast opens p = (q : List ℕ) → IsPlan opens q → (q ≡ p) ⊎ Before p q
+
+empty-list : {A : Type 0} (l : List A) → ((x : A) → List·Memᴰ x l → ⊥) → l ≡ []
+empty-list [] f = refl
+empty-list (x ∷ l) f = absurd (f x (List·Memᴰ·head refl))
+
+module _ (m : ℕ) (opens : List ℕ) (few : length opens ≤ 64) (range : (i : ℕ) → i < length opens → getD opens i 0 < 2 ^ m) where
+  from : (p : List ℕ) → List·Memᴰ p (plans m opens) → IsPlan opens p
+  from = plan-from m opens few range
+
+  into : (p : List ℕ) → IsPlan opens p → List·Memᴰ p (plans m opens)
+  into = plan-into m opens few range
+
+  -- ---- whether there is a plan
+
+  pub no-plans : ((p : List ℕ) → IsPlan opens p → ⊥) → plans m opens ≡ []
+  no-plans f = empty-list (plans m opens) (λ p h. f p (from p h))
+
+  pub count-none : ((p : List ℕ) → IsPlan opens p → ⊥) → count m opens ≡ 0
+  unfolding count
+  count-none f = ap length (no-plans f)
+
+  pub count-some : (p : List ℕ) → IsPlan opens p → 0 < count m opens
+  unfolding count
+  count-some p P = go (plans m opens) (into p P)
+    where
+      go : (l : List (List ℕ)) → List·Memᴰ p l → 0 < length l
+      go [] h = absurd (List·Memᴰ·not-nil h)
+      go (x ∷ l) h = omega arith
+
+  -- ---- whether a record is a plan
+
+  pub is-plan : (p : List ℕ) → IsPlan opens p → isPlan m opens p ≡ true
+  unfolding isPlan
+  is-plan p P = is-true (isPlan m opens p) (any-into (same p) (plans m opens) (into p P) (same-refl p))
+
+  pub is-no-plan : (p : List ℕ) → (IsPlan opens p → ⊥) → isPlan m opens p ≡ false
+  unfolding isPlan
+  is-no-plan p f =
+      is-false (isPlan m opens p) (λ t. let r = any-from (same p) (plans m opens) t in f (from p (subst (λ q. List·Memᴰ q (plans m opens)) (sym (same-eq p (r .0) (r .2))) (r .1))))
+
+  -- ---- first
+
+  pub first-of-none : ((p : List ℕ) → IsPlan opens p → ⊥) → firstOf opens (plans m opens) ≡ deficient opens
+  unfolding firstOf
+  first-of-none f = ap (firstOf opens) (no-plans f)
+
+  pub first-of : (p : List ℕ) → IsPlan opens p → IsLeast opens p → firstOf opens (plans m opens) ≡ given p 0
+  unfolding firstOf
+  first-of p P f = ap (firstOf opens) (least-is-head (plans m opens) p (plans-rise m opens) (into p P) (λ q h. f q (from q h)) .1)
+
+  -- ---- next
+
+  after-from : (g p : List ℕ) → List·Memᴰ p (plansAfter m opens g) → IsPlan opens p × Before g p
+  unfolding plansAfter
+  after-from g p h = let r = keep-from (before g) (plans m opens) h in (from p (r .0), r .1)
+
+  pub next-of-none : (g : List ℕ) → ((p : List ℕ) → IsPlan opens p → Before g p → ⊥) → nextOf (plansAfter m opens g) ≡ refused 10
+  unfolding nextOf
+  next-of-none g f = ap nextOf (empty-list (plansAfter m opens g) (λ p h. let r = after-from g p h in f p (r .0) (r .1)))
+
+  pub next-of : (g p : List ℕ) → IsPlan opens p → Before g p → ((q : List ℕ) → IsPlan opens q → Before g q → (q ≡ p) ⊎ Before p q)
+      → nextOf (plansAfter m opens g) ≡ given p 0
+  unfolding nextOf plansAfter
+  next-of g p P b f =
+      ap nextOf
+      (least-is-head (plansAfter m opens g) p (chain-keep Before (before g) (plans m opens) (plans-rise m opens)) (keep-into (before g) (plans m opens) (into p P) b)
+      (λ q h. let r = after-from g q h in f q (r .0) (r .1)) .1)
+
+  -- ---- fewest callouts
+
+  module _ (callouts p : List ℕ) (P : IsPlan opens p) (fewer : (q : List ℕ) → IsPlan opens q → calloutsOf callouts p ≤ calloutsOf callouts q) where
+    pub fewest-is : fewest m opens callouts ≡ calloutsOf callouts p
+    unfolding fewest
+    fewest-is = least-is (calloutsOf callouts) (plans m opens) p (into p P) (λ q h. fewer q (from q h))
+
+    pub fewest-of : ((q : List ℕ) → IsPlan opens q → calloutsOf callouts q ≡ calloutsOf callouts p → (q ≡ p) ⊎ Before p q)
+        → (rest : List (List ℕ)) × (fewestPlans m opens callouts ≡ p ∷ rest)
+    unfolding fewestPlans
+    fewest-of f =
+        let test : List ℕ → Bool = λ q. eqb (calloutsOf callouts q) (fewest m opens callouts) in
+        least-is-head (fewestPlans m opens callouts) p (chain-keep Before test (plans m opens) (plans-rise m opens))
+        (keep-into test (plans m opens) (into p P) (subst (λ k. T (eqb (calloutsOf callouts p) k)) (sym fewest-is) (eqb-refl (calloutsOf callouts p))))
+        (λ q h.
+        let r = keep-from test (plans m opens) h in
+        f q (from q (r .0)) (eqb→eq (calloutsOf callouts q) (fewest m opens callouts) (r .1) ∙ fewest-is))
+
+-- ---- the answers, of accepted tables
+
+module _ (n m : ℕ) (opens callouts : List ℕ) (ok : tableCode n m opens callouts ≡ 0) where
+  pub few : length opens ≤ 64
+  few = let A = accepted n m opens callouts ok in omega (arith, A .few-items, A .open-words)
+
+  pub range : (i : ℕ) → i < length opens → getD opens i 0 < 2 ^ m
+  range i h = let A = accepted n m opens callouts ok in A .open-range i (omega (arith, A .open-words))
+
+  pub first-none : ((p : List ℕ) → IsPlan opens p → ⊥) → firstAnswer n m opens callouts ≡ deficient opens
+  unfolding firstAnswer unless
+  first-none f = ap (λ c. unless c (firstOf opens (plans m opens))) ok ∙ first-of-none m opens few range f
+
+  pub first-is : (p : List ℕ) → IsPlan opens p → IsLeast opens p → firstAnswer n m opens callouts ≡ given p 0
+  unfolding firstAnswer unless
+  first-is p P f = ap (λ c. unless c (firstOf opens (plans m opens))) ok ∙ first-of m opens few range p P f
+
+  next-by : (g : Plan) (b : Bool) → isPlan m opens (g .slots) ≡ b
+      → nextAnswer n m opens callouts g ≡ cond b (nextOf (plansAfter m opens (g .slots))) (refused 8)
+  unfolding nextAnswer unless
+  next-by g b e =
+      ap (λ c. unless c (cond (isPlan m opens (g .slots)) (nextOf (plansAfter m opens (g .slots))) (refused 8))) ok
+      ∙ ap (λ b. cond b (nextOf (plansAfter m opens (g .slots))) (refused 8)) e
+
+  pub next-no-plan : (g : Plan) → (IsPlan opens (g .slots) → ⊥) → nextAnswer n m opens callouts g ≡ refused 8
+  next-no-plan g f = next-by g false (is-no-plan m opens few range (g .slots) f)
+
+  pub next-none : (g : Plan) → IsPlan opens (g .slots) → ((p : List ℕ) → IsPlan opens p → Before (g .slots) p → ⊥) → nextAnswer n m opens callouts g ≡ refused 10
+  next-none g G f = next-by g true (is-plan m opens few range (g .slots) G) ∙ next-of-none m opens few range (g .slots) f
+
+  pub next-is : (g : Plan) (p : List ℕ) → IsPlan opens (g .slots) → IsPlan opens p → Before (g .slots) p
+      → ((q : List ℕ) → IsPlan opens q → Before (g .slots) q → (q ≡ p) ⊎ Before p q) → nextAnswer n m opens callouts g ≡ given p 0
+  next-is g p G P b f = next-by g true (is-plan m opens few range (g .slots) G) ∙ next-of m opens few range (g .slots) p P b f
+
+  fewest-unless : (cap : ℕ) → fewestAnswer n m opens callouts cap ≡ fewestOf opens cap (fewest m opens callouts) (fewestPlans m opens callouts)
+  unfolding fewestAnswer unless
+  fewest-unless cap = ap (λ c. unless c (fewestOf opens cap (fewest m opens callouts) (fewestPlans m opens callouts))) ok
+
+  pub fewest-none : (cap : ℕ) → ((p : List ℕ) → IsPlan opens p → ⊥) → fewestAnswer n m opens callouts cap ≡ deficient opens
+  unfolding fewestOf fewestPlans keep
+  fewest-none cap f =
+      fewest-unless cap
+      ∙ ap (λ l. fewestOf opens cap (fewest m opens callouts) (keep (λ p. eqb (calloutsOf callouts p) (fewest m opens callouts)) l)) (no-plans m opens few range f)
+
+  pub fewest-answer : (cap : ℕ) (p : List ℕ) → IsPlan opens p → ((q : List ℕ) → IsPlan opens q → calloutsOf callouts p ≤ calloutsOf callouts q)
+      → ((q : List ℕ) → IsPlan opens q → calloutsOf callouts q ≡ calloutsOf callouts p → (q ≡ p) ⊎ Before p q)
+      → fewestAnswer n m opens callouts cap ≡ cond (leb (calloutsOf callouts p) cap) (given p (calloutsOf callouts p)) (overCap (calloutsOf callouts p))
+  unfolding fewestOf
+  fewest-answer cap p P fewer f =
+      fewest-unless cap
+      ∙ ap₂ (fewestOf opens cap) (fewest-is m opens few range callouts p P fewer) (fewest-of m opens few range callouts p P fewer f .1)
