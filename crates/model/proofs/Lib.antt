@@ -8,3 +8,6 @@ pub mod Permanent
 pub mod Deficiency
 pub mod Allowed
 pub mod Laws
+pub mod Listing
+pub mod Ways
+pub mod Subsets

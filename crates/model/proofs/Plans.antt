@@ -8,16 +8,16 @@ use native.Mathlib.Nat.{suc-inj}
 use native.Mathlib.Omega.{arith}
 use native.Mathlib.Decide.{decLt}
 use lib.Dec.{T}
-use lib.ListN.{length, getD, take, replicate, length-append, length-replicate, getD-replicate, List·getD-append}
+use lib.ListN.{length, getD, take, drop, replicate, length-append, length-replicate, getD-replicate, List·getD-append}
 use lib.Seq.{ext-getD, getD-append-add, getD-take, length-take-le, take-at}
 use Rattle.words.specs.Word.{bit, has}
 use Rattle.words.specs.Sum.{below}
 use Rattle.words.proofs.Bits.{has-in, has-bit, bit-one-lt}
 use Rattle.words.proofs.Sums.{below-from, below-into}
 use Rattle.model.specs.Lists.{keep, remove, before}
-use Rattle.model.specs.Plans.{arrangements, fits, matchings, padded, plans, IsPlan}
+use Rattle.model.specs.Plans.{arrangements, fits, matchings, padded, plans, plansAfter, IsPlan}
 use Rattle.model.proofs.Members.{both, both-left, both-right, keep-from, keep-into, remove-from, remove-into, flatMap-from, flatMap-into}
-use Rattle.model.proofs.Order.{Before, Chain, Rising, chain-keep, chain-below, arrangements-rise, rising-map, before-append}
+use Rattle.model.proofs.Order.{Before, Chain, Rising, chain-keep, chain-below, arrangements-rise, rising-map, before-append, after-member}
 
 -- ---- the arrangements: so long, of the slots at hand, none twice
 
@@ -125,6 +125,11 @@ module _ (m : ℕ) (opens : List ℕ) where
       rising-map padded (matchings opens (length opens) (below m))
       (λ p q a b h. padded-before p q (matching-length p a ∙ sym (matching-length q b)) h)
       (chain-keep Before (fits opens) (arrangements (length opens) (below m)) (arrangements-rise (length opens) (below m) (chain-below m)))
+
+  -- the plans after number k are those from number k + 1 on
+  pub plans-after : (k : ℕ) → k < length (plans m opens) → plansAfter m opens (getD (plans m opens) k []) ≡ drop (suc k) (plans m opens)
+  unfolding plansAfter
+  plans-after = after-member (plans m opens) plans-rise
 
   module _ (few : length opens ≤ 64) (range : (i : ℕ) → i < length opens → getD opens i 0 < 2 ^ m) where
     pub plan-from : (p : List ℕ) → List·Memᴰ p (plans m opens) → IsPlan opens p

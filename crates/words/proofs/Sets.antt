@@ -71,6 +71,9 @@ ones-minus a b ha hb =
 pub empty : (k w : ℕ) → w < 2 ^ k → ((j : ℕ) → j < k → bit w j ≡ 0) → w ≡ 0
 empty k w h f = ext k w 0 h (pow-pos k) (λ j l. f j l ∙ sym (bit-empty j))
 
+pub ones-none : (k w : ℕ) → w < 2 ^ k → ones w ≡ 0 → w ≡ 0
+ones-none k w h e = empty k w h (λ j l. ⊎-elim (λ z. z) (λ o. absurd (omega (arith, ones-without w j o))) (bit-cases w j))
+
 pub ones-subset : (k a b : ℕ) → a < 2 ^ k → b < 2 ^ k → ((j : ℕ) → j < k → bit a j ≤ bit b j) → ones a ≤ ones b
 ones-subset k a b ha hb f = omega (arith, ones-sum k a ha, ones-sum k b hb, sum-le (bit a) (bit b) k f)
 

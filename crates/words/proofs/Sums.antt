@@ -142,6 +142,10 @@ pub sum-add : (f g : ℕ → ℕ) (n : ℕ) → sum (λ i. f i + g i) n ≡ sum 
 unfolding sum
 sum-add f g n = total-add f g (below n)
 
+pub sum-scale : (c : ℕ) (f : ℕ → ℕ) (n : ℕ) → sum (λ i. c * f i) n ≡ c * sum f n
+unfolding sum
+sum-scale c f n = total-scale c f (below n)
+
 pub sum-none : (f : ℕ → ℕ) (n : ℕ) → ((i : ℕ) → i < n → f i ≡ 0) → sum f n ≡ 0
 unfolding sum
 sum-none f n h = sum-cong f (λ i. 0) n h ∙ total-const 0 (below n) ∙ mul-zero (length (below n))
