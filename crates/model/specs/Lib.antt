@@ -12,3 +12,4 @@ pub mod Answers
 pub mod Enumerator
 pub mod Demand3
 pub mod Rows
+pub mod Bounds

@@ -2,7 +2,7 @@
 use mathlib.Core.Path.{_≡_, refl}
 use mathlib.Core.List.{List, [], _∷_, _++_, map}
 use Prim.Native.Nat.{ℕ, _+_, _*_}
-use lib.ListN.{length, getD, replicate}
+use lib.ListN.{length, getD, take, drop, replicate}
 use Rattle.model.specs.declared.Plan.{Plan}
 use Rattle.model.specs.Plans.{plans, padded, blank}
 use Rattle.model.specs.Allowed.{allowedWords}
@@ -78,6 +78,8 @@ pub record File : Type 0 where
   pub size : length (fileBytes 3 T-opens T-callouts) ≡ 512
   pub check-low : getD (fileBytes 3 T-opens T-callouts) 510 0 ≡ 82
   pub check-high : getD (fileBytes 3 T-opens T-callouts) 511 0 ≡ 1
+  pub header : take 14 (fileBytes 3 T-opens T-callouts) ≡ 82 ∷ 79 ∷ 84 ∷ 65 ∷ 1 ∷ 3 ∷ 0 ∷ 3 ∷ replicate 6 0
+  pub item-0 : take 16 (drop 14 (fileBytes 3 T-opens T-callouts)) ≡ (3 ∷ replicate 7 0) ++ (1 ∷ replicate 7 0)
   pub accepted : fileCode (fileBytes 3 T-opens T-callouts) ≡ 0
   pub items : itemsIn (fileBytes 3 T-opens T-callouts) ≡ 3
   pub opens : opensIn (fileBytes 3 T-opens T-callouts) ≡ T-opens
@@ -85,9 +87,9 @@ pub record File : Type 0 where
 
 pub file : File
 unfolding fileBytes fileCode itemsIn opensIn calloutsIn
-file = record { size = refl; check-low = refl; check-high = refl; accepted = refl; items = refl; opens = refl; callouts = refl }
+file = record { size = refl; check-low = refl; check-high = refl; header = refl; item-0 = refl; accepted = refl; items = refl; opens = refl; callouts = refl }
 
--- T's tally, lent ten words, and its permanent
+-- T's tally and its permanent
 pub T-tally : subsetCounts 3 T-opens ≡ 1 ∷ 1 ∷ 1 ∷ 2 ∷ 0 ∷ 1 ∷ 1 ∷ 3 ∷ []
 unfolding subsetCounts
 T-tally = refl

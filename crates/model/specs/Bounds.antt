@@ -1,0 +1,112 @@
+-- The definitions at the bounds of document 01's rules, computed by antt. Assumes nothing.
+use mathlib.Core.Path.{_≡_, refl}
+use mathlib.Core.Bool.{true, false}
+use mathlib.Core.List.{List, [], _∷_}
+use Prim.Native.Nat.{ℕ, _^_, _-_}
+use lib.ListN.{replicate}
+use Rattle.model.specs.Rota.{tableCode}
+use Rattle.model.specs.Grade.{gradeOf, rate}
+use Rattle.model.specs.File.{blocksFor, fileCode}
+use Rattle.model.specs.Answers.{countCode, fleetCode, roomCode}
+
+-- acceptance, and what count, grade and price add
+pub record Codes : Type 0 where
+  pub no-item : tableCode 0 0 [] [] ≡ 1
+  pub most-items : tableCode 64 64 (replicate 64 (2 ^ 64 - 1)) (replicate 64 (2 ^ 64 - 1)) ≡ 0
+  pub too-many : tableCode 65 65 (replicate 65 1) (replicate 65 0) ≡ 1
+  pub short-opens : tableCode 2 2 (1 ∷ []) (0 ∷ 0 ∷ []) ≡ 2
+  pub long-callouts : tableCode 2 2 (1 ∷ 2 ∷ []) (0 ∷ 0 ∷ 0 ∷ []) ≡ 2
+  pub last-slot : tableCode 63 63 (replicate 63 (2 ^ 62)) (replicate 63 0) ≡ 0
+  pub slot-above : tableCode 63 63 (2 ^ 63 ∷ replicate 62 0) (replicate 63 0) ≡ 3
+  pub three-first : tableCode 2 2 (1 ∷ 4 ∷ []) (2 ∷ 0 ∷ []) ≡ 3
+  pub stray : tableCode 2 2 (1 ∷ 3 ∷ []) (0 ∷ 4 ∷ []) ≡ 4
+  pub twenty : countCode 20 20 (replicate 20 1) (replicate 20 0) (2 ^ 20) ≡ 0
+  pub twenty-one : countCode 21 21 (replicate 21 1) (replicate 21 0) 0 ≡ 5
+  pub small-tally : countCode 20 20 (replicate 20 1) (replicate 20 0) (2 ^ 20 - 1) ≡ 6
+  pub no-vehicle : fleetCode 0 ≡ 7
+  pub one-vehicle : fleetCode 1 ≡ 0
+  pub most-vehicles : fleetCode 10000 ≡ 0
+  pub too-many-vehicles : fleetCode 10001 ≡ 7
+  pub room : roomCode 3 3 ≡ 0
+  pub no-room : roomCode 2 3 ≡ 15
+  pub no-file : fileCode [] ≡ 12
+  pub short-file : fileCode (replicate 511 0) ≡ 12
+  pub long-file : fileCode (replicate 2048 0) ≡ 12
+  pub zero-file : fileCode (replicate 512 0) ≡ 14
+  pub wrong-check : fileCode (1 ∷ replicate 511 0) ≡ 13
+
+pub codes : Codes
+unfolding tableCode countCode fleetCode roomCode fileCode
+codes =
+    record {
+      no-item = refl;
+      most-items = refl;
+      too-many = refl;
+      short-opens = refl;
+      long-callouts = refl;
+      last-slot = refl;
+      slot-above = refl;
+      three-first = refl;
+      stray = refl;
+      twenty = refl;
+      twenty-one = refl;
+      small-tally = refl;
+      no-vehicle = refl;
+      one-vehicle = refl;
+      most-vehicles = refl;
+      too-many-vehicles = refl;
+      room = refl;
+      no-room = refl;
+      no-file = refl;
+      short-file = refl;
+      long-file = refl;
+      zero-file = refl;
+      wrong-check = refl;
+    }
+
+-- the rules of the grade, the second argument saying whether some item has just one open slot; the rates' columns; the blocks
+pub record Figures : Type 0 where
+  pub rule-1 : gradeOf 1 true ≡ 1
+  pub rule-2 : gradeOf 1000 true ≡ 5
+  pub rule-3 : gradeOf 999 true ≡ 2
+  pub rule-3-least : gradeOf 2 true ≡ 2
+  pub rule-4 : gradeOf 2 false ≡ 3
+  pub rule-4-most : gradeOf 23 false ≡ 3
+  pub rule-5 : gradeOf 24 false ≡ 4
+  pub rule-5-most : gradeOf 999 false ≡ 4
+  pub fleet-1 : rate 1 1 ≡ 420
+  pub fleet-49 : rate 2 49 ≡ 380
+  pub fleet-50 : rate 3 50 ≡ 285
+  pub fleet-499 : rate 4 499 ≡ 240
+  pub fleet-500 : rate 5 500 ≡ 180
+  pub fleet-10000 : rate 1 10000 ≡ 360
+  pub one-block : blocksFor 31 ≡ 1
+  pub two-blocks : blocksFor 32 ≡ 2
+  pub two-blocks-most : blocksFor 62 ≡ 2
+  pub three-blocks : blocksFor 63 ≡ 3
+  pub three-blocks-most : blocksFor 64 ≡ 3
+
+pub figures : Figures
+unfolding gradeOf rate blocksFor
+figures =
+    record {
+      rule-1 = refl;
+      rule-2 = refl;
+      rule-3 = refl;
+      rule-3-least = refl;
+      rule-4 = refl;
+      rule-4-most = refl;
+      rule-5 = refl;
+      rule-5-most = refl;
+      fleet-1 = refl;
+      fleet-49 = refl;
+      fleet-50 = refl;
+      fleet-499 = refl;
+      fleet-500 = refl;
+      fleet-10000 = refl;
+      one-block = refl;
+      two-blocks = refl;
+      two-blocks-most = refl;
+      three-blocks = refl;
+      three-blocks-most = refl;
+    }
