@@ -5,7 +5,7 @@ use mathlib.Core.List.{List, [], _∷_}
 use Prim.Native.Nat.{ℕ, zero, suc, _-_, _^_, _<_, _≤_, min}
 use native.Mathlib.Nat.{suc-inj}
 use native.Mathlib.Omega.{arith}
-use borrow.Author.Tests.{eqb-true, eqb-false, leb-false, ltb-false, not-false}
+use borrow.Author.Tests.{eq-eqb, ne-eqb, eqb-true, eqb-false, leb-false, le-ltb, ltb-false, not-false}
 use lib.Dec.{eqb, ltb, leb}
 use lib.ListN.{length, getD}
 use Rattle.words.specs.Word.{bit, minus}
@@ -29,26 +29,50 @@ no-stray (w ∷ opens) (c ∷ callouts) q e zero h =
 no-stray (w ∷ opens) (c ∷ callouts) q e (suc i) h =
     no-stray opens callouts (suc-inj q) (neither (not (eqb (minus c w) 0)) (strayCallout opens callouts) e .1) i (omega arith)
 
-pub accepted : (n m : ℕ) (opens callouts : List ℕ) → tableCode n m opens callouts ≡ 0 → Accepted n m opens callouts
-unfolding tableCode cellCode
-accepted n m opens callouts e =
-    let a = passed (eqb n 0 || ltb 64 n) 0 _ e in
-    let a′ = neither (eqb n 0) (ltb 64 n) (a .0) in
-    let b = passed (not (eqb (length opens) n) || not (eqb (length callouts) n)) 1 _ (a .1) in
-    let b′ = neither (not (eqb (length opens) n)) (not (eqb (length callouts) n)) (b .0) in
-    let c = passed (any (λ w. leb (2 ^ m) w) opens) 2 _ (b .1) in
-    let d = passed (strayCallout opens callouts) 3 _ (c .1) in
-    let lo : length opens ≡ n = eqb-true (length opens) n (not-false (eqb (length opens) n) (b′ .0)) in
-    let lc : length callouts ≡ n = eqb-true (length callouts) n (not-false (eqb (length callouts) n) (b′ .1)) in
-    let some = eqb-false n 0 (a′ .0) in
-    record {
-      some-item = omega (arith, some);
-      few-items = ltb-false 64 n (a′ .1);
-      open-words = lo;
-      callout-words = lc;
-      open-range = λ i h. leb-false (2 ^ m) (getD opens i 0) (any-none (λ w. leb (2 ^ m) w) 0 opens (c .0) i (omega arith));
-      callout-open = λ i h. no-stray opens callouts (lc ∙ sym lo) (d .0) i (omega arith);
-    }
+-- what 1 and 2 leave
+pub record Tables (n m : ℕ) (opens callouts : List ℕ) : Type 0 where
+  pub some-item : 0 < n
+  pub few-items : n ≤ 64
+  pub open-words : length opens ≡ n
+  pub callout-words : length callouts ≡ n
+  pub cells : cellCode m opens callouts ≡ 0
+
+module _ (n m : ℕ) (opens callouts : List ℕ) where
+  pub tables-from : tableCode n m opens callouts ≡ 0 → Tables n m opens callouts
+  unfolding tableCode
+  tables-from ok =
+      let a = passed _ 0 _ ok in
+      let b = passed _ 1 _ (a .1) in
+      let c = neither _ _ (a .0) in
+      let d = neither _ _ (b .0) in
+      record {
+        some-item = omega (arith, eqb-false n 0 (c .0));
+        few-items = ltb-false 64 n (c .1);
+        open-words = eqb-true (length opens) n (not-false _ (d .0));
+        callout-words = eqb-true (length callouts) n (not-false _ (d .1));
+        cells = b .1;
+      }
+
+  pub tables-into : Tables n m opens callouts → tableCode n m opens callouts ≡ 0
+  unfolding tableCode
+  tables-into t =
+      rw (ne-eqb n 0 (omega arith), le-ltb 64 n (t .few-items), eq-eqb (length opens) n (t .open-words), eq-eqb (length callouts) n (t .callout-words))
+      (t .cells)
+
+  pub accepted : tableCode n m opens callouts ≡ 0 → Accepted n m opens callouts
+  unfolding cellCode
+  accepted ok =
+      let t = tables-from ok in
+      let c = passed (any (λ w. leb (2 ^ m) w) opens) 2 _ (t .cells) in
+      let d = passed (strayCallout opens callouts) 3 _ (c .1) in
+      record {
+        some-item = t .some-item;
+        few-items = t .few-items;
+        open-words = t .open-words;
+        callout-words = t .callout-words;
+        open-range = λ i h. leb-false (2 ^ m) (getD opens i 0) (any-none (λ w. leb (2 ^ m) w) 0 opens (c .0) i (omega arith));
+        callout-open = λ i h. no-stray opens callouts (t .callout-words ∙ sym (t .open-words)) (d .0) i (omega arith);
+      }
 
 -- a callout cell is open
 pub callout-bit : (n m : ℕ) (opens callouts : List ℕ) → Accepted n m opens callouts → (i j : ℕ) → i < n → getD opens i 0 < 2 ^ 64 → j < 64

@@ -57,12 +57,12 @@ module _ (m : ℕ) (opens : List ℕ) (few : length opens ≤ 64) (range : (i : 
 
   pub is-plan : (p : List ℕ) → IsPlan opens p → isPlan m opens p ≡ true
   unfolding isPlan
-  is-plan p P = is-true (isPlan m opens p) (any-into (same p) (plans m opens) (into p P) (same-refl p))
+  is-plan p P = is-true (isPlan m opens p) (any-into (same p) (plans m opens) (into p P) (subst T (sym (same-refl p)) tt))
 
   pub is-no-plan : (p : List ℕ) → (IsPlan opens p → ⊥) → isPlan m opens p ≡ false
   unfolding isPlan
   is-no-plan p f =
-      is-false (isPlan m opens p) (λ t. let r = any-from (same p) (plans m opens) t in f (from p (subst (λ q. List·Memᴰ q (plans m opens)) (sym (same-eq p (r .0) (r .2))) (r .1))))
+      is-false (isPlan m opens p) (λ t. let r = any-from (same p) (plans m opens) t in f (from p (subst (λ q. List·Memᴰ q (plans m opens)) (sym (same-eq p (r .0) (is-true (same p (r .0)) (r .2)))) (r .1))))
 
   -- ---- first
 

@@ -11,3 +11,6 @@ pub mod Laws
 pub mod Listing
 pub mod Ways
 pub mod Subsets
+pub mod Parts
+pub mod FileBlocks
+pub mod Files

@@ -1,11 +1,11 @@
 -- Tests and members: of what passes a test, of a list with one number taken out, of lists put together. Assumes nothing.
 use mathlib.Core.Path.{_≡_, refl, sym, ap, ap₂, _∙_, subst}
 use mathlib.Core.Logic.{_≢_, _⊎_, inl, inr, ⊎-elim}
-use mathlib.Core.Bool.{Bool, true, false, not, cond, _&&_, _||_}
+use mathlib.Core.Bool.{Bool, true, false, not, cond, _&&_, _||_, and-eq-true-iff}
 use mathlib.Core.List.{List, [], _∷_, _++_, map, flatMap, List·Memᴰ, List·Memᴰ·head, List·Memᴰ·tail, List·Memᴰ·not-nil, List·Memᴰ·cases-cons, List·Memᴰ·append-cases, Memᴰ·append-left, Memᴰ·append-right}
 use Prim.Native.Nat.{ℕ, zero, suc, _+_, _<_, _≤_}
 use native.Mathlib.Omega.{arith}
-use borrow.Author.Tests.{eq-eqb}
+use borrow.Author.Tests.{eq-eqb, eqb-true}
 use lib.Dec.{T, eqb, eqb→eq, eqb-refl, T-not, not-T}
 use lib.ListN.{length, getD}
 use Rattle.model.specs.Lists.{keep, any, remove, same}
@@ -48,17 +48,17 @@ pub neither : (a b : Bool) → (a || b) ≡ false → (a ≡ false) × (b ≡ fa
 neither true b e = absurd (subst T e tt)
 neither false b e = (refl, e)
 
-pub same-refl : (l : List ℕ) → T (same l l)
+pub same-refl : (l : List ℕ) → same l l ≡ true
 unfolding same
-same-refl [] = tt
-same-refl (x ∷ l) = rw (eq-eqb x x refl) (same-refl l)
+same-refl [] = refl
+same-refl (x ∷ l) = ap₂ _&&_ (eq-eqb x x refl) (same-refl l)
 
-pub same-eq : (l m : List ℕ) → T (same l m) → l ≡ m
+pub same-eq : (l m : List ℕ) → same l m ≡ true → l ≡ m
 unfolding same
-same-eq [] [] t = refl
-same-eq [] (y ∷ m) t = absurd t
-same-eq (x ∷ l) [] t = absurd t
-same-eq (x ∷ l) (y ∷ m) t = ap₂ _∷_ (eqb→eq x y (both-left (eqb x y) (same l m) t)) (same-eq l m (both-right (eqb x y) (same l m) t))
+same-eq [] [] e = refl
+same-eq [] (y ∷ m) e = absurd (subst T (sym e) tt)
+same-eq (x ∷ l) [] e = absurd (subst T (sym e) tt)
+same-eq (x ∷ l) (y ∷ m) e = let r = and-eq-true-iff (eqb x y) (same l m) .0 e in ap₂ _∷_ (eqb-true x y (r .0)) (same-eq l m (r .1))
 
 -- ---- what passes a test
 

@@ -1,0 +1,131 @@
+-- One block of a rota file: what is written is read back, and what is read is written again. Assumes nothing.
+use mathlib.Core.Path.{_≡_, refl, sym, ap, ap₂, _∙_}
+use mathlib.Core.Bool.{true, false, not, _&&_, and-eq-true-iff}
+use mathlib.Core.List.{List, [], _∷_, _++_, append-assoc}
+use Prim.Native.Nat.{ℕ, zero, suc, _+_, _-_, _*_, _/_, _%_, _^_, _≤_, _<_}
+use native.Mathlib.Nat.{suc-inj, mod-lt}
+use native.Mathlib.Omega.{arith}
+use borrow.Author.Tests.{eq-eqb, eqb-true, not-false}
+use lib.Dec.{eqb, lit<}
+use lib.ListN.{length, getD, take, drop, length-append, length-replicate, take-append-drop}
+use lib.Seq.{take-at, drop-at, take-add, drop-drop}
+use Rattle.model.specs.Lists.{same}
+use Rattle.model.specs.File.{lowBytes, fromBytes, itemsOf, header, itemBytes, unused, checkOf, body, checked, wordsEvery16, checkWrong, blockLaid}
+use Rattle.model.proofs.Members.{same-refl, same-eq}
+use Rattle.model.proofs.Parts.{three-parts, Numbers, numbers-take, numbers-drop}
+
+-- ---- numbers and bytes
+
+pub from-low : (k x : ℕ) → x < 256 ^ k → fromBytes (lowBytes k x) ≡ x
+unfolding lowBytes fromBytes
+from-low zero x h = omega arith
+from-low (suc k) x h = let e = from-low k (x / 256) (omega arith) in omega arith
+
+pub low-from : (k : ℕ) (l : List ℕ) → Numbers 256 k l → lowBytes k (fromBytes l) ≡ l
+unfolding lowBytes fromBytes
+low-from zero [] s = refl
+low-from zero (x ∷ l) s = absurd (omega arith)
+low-from (suc k) [] s = absurd (omega arith)
+low-from (suc k) (x ∷ l) s =
+    let h = s .small 0 (omega arith) in
+    let p : (x + 256 * fromBytes l) % 256 ≡ x = omega arith in
+    let q : (x + 256 * fromBytes l) / 256 ≡ fromBytes l = omega arith in
+    rw (p, q) (ap (x ∷_) (low-from k l (numbers-drop 1 s (omega arith))))
+
+-- ---- the items of a block
+
+items-length : (ws cs : List ℕ) → length cs ≡ length ws → length (itemBytes ws cs) ≡ 16 * length ws
+unfolding itemBytes lowBytes
+items-length [] cs e = refl
+items-length (w ∷ ws) [] e = absurd (omega arith)
+items-length (w ∷ ws) (c ∷ cs) e = let r = items-length ws cs (suc-inj e) in omega arith
+
+pub words-length : (k : ℕ) (l : List ℕ) → length (wordsEvery16 k l) ≡ k
+unfolding wordsEvery16
+words-length zero l = refl
+words-length (suc k) l = ap suc (words-length k (drop 16 l))
+
+pub word-at : (k i : ℕ) (l : List ℕ) → i < k → getD (wordsEvery16 k l) i 0 ≡ fromBytes (take 8 (drop (16 * i) l))
+unfolding wordsEvery16
+word-at zero i l h = absurd (omega arith)
+word-at (suc k) zero l h = refl
+word-at (suc k) (suc i) l h = let q : 16 * suc i ≡ 16 + 16 * i = omega arith in rw (q, ← drop-drop) (word-at k i (drop 16 l) (omega arith))
+
+words-back : (k : ℕ) (ws cs rest : List ℕ) → Numbers (2 ^ 64) k ws → Numbers (2 ^ 64) k cs
+    → (wordsEvery16 k (itemBytes ws cs ++ rest) ≡ ws) × (wordsEvery16 k (drop 8 (itemBytes ws cs ++ rest)) ≡ cs)
+unfolding wordsEvery16 itemBytes
+words-back zero [] [] rest v w = (refl, refl)
+words-back zero (o ∷ ws) cs rest v w = absurd (omega arith)
+words-back zero [] (c ∷ cs) rest v w = absurd (omega arith)
+words-back (suc k) [] cs rest v w = absurd (omega arith)
+words-back (suc k) (o ∷ ws) [] rest v w = absurd (omega arith)
+words-back (suc k) (o ∷ ws) (c ∷ cs) rest v w =
+    let r = words-back k ws cs rest (numbers-drop 1 v (omega arith)) (numbers-drop 1 w (omega arith)) in
+    (ap₂ _∷_ (from-low 8 o (v .small 0 (omega arith))) r.0, ap₂ _∷_ (from-low 8 c (w .small 0 (omega arith))) r.1)
+
+items-again : (k m : ℕ) (l : List ℕ) → 16 * k ≤ m → Numbers 256 m l → itemBytes (wordsEvery16 k l) (wordsEvery16 k (drop 8 l)) ≡ take (16 * k) l
+unfolding wordsEvery16 itemBytes
+items-again zero m l h s = refl
+items-again (suc k) m l h s =
+    let q : 16 * suc k ≡ 8 + (8 + 16 * k) = omega arith in
+    ap₂ _++_ (low-from 8 (take 8 l) (numbers-take 8 s (omega arith)))
+    (ap₂ _++_ (low-from 8 (take 8 (drop 8 l)) (numbers-take 8 (numbers-drop 8 s refl) (omega arith)))
+    (ap (λ t. itemBytes (wordsEvery16 k (drop 16 l)) (wordsEvery16 k t)) (drop-drop 16 8 l ∙ sym (drop-drop 8 16 l))
+    ∙ items-again k (m - 16) (drop 16 l) (omega arith) (numbers-drop 16 s refl)))
+    ∙ sym (rw (q, take-add 8, take-add 8 (16 * k) (drop 8 l), drop-drop))
+
+-- ---- the block, of k items
+
+pub record Written (n b k : ℕ) (ws cs block : List ℕ) : Type 0 where
+  pub size : length block ≡ 512
+  pub right : checkWrong block ≡ false
+  pub laid : blockLaid n b block ≡ true
+  pub words : (wordsEvery16 k (drop 14 block) ≡ ws) × (wordsEvery16 k (drop 22 block) ≡ cs)
+
+module _ (n b k : ℕ) (r : itemsOf n b ≡ k) where
+  pub block-back : (ws cs : List ℕ) → Numbers (2 ^ 64) k ws → Numbers (2 ^ 64) k cs → Written n b k ws cs (checked (body n b ws cs))
+  unfolding checked body checkWrong blockLaid
+  block-back ws cs v w =
+      let head = header n b (length ws) in
+      let items = itemBytes ws cs in
+      let rest = unused (length ws) in
+      let bytes = body n b ws cs in
+      let check = checkOf bytes in
+      let two = lowBytes 2 check in
+      let front : length (head ++ items) ≡ 14 + 16 * length ws = omega (arith, items-length ws cs (w .count ∙ sym (v .count))) in
+      let long : length bytes ≡ 510 = length-append (head ++ items) rest ∙ ap₂ _+_ front (length-replicate (16 * (31 - length ws)) 0) ∙ omega arith in
+      let first = take-at bytes two 510 long in
+      let last = drop-at bytes two 510 long in
+      record {
+        size = length-append bytes two ∙ ap (_+ 2) long;
+        right = ap not (ap₂ (λ x y. eqb (fromBytes x) (checkOf y)) last first ∙ eq-eqb (fromBytes two) check (from-low 2 check (mod-lt _ (lit< tt))));
+        laid = rw (r, ← v .count)
+            (ap₂ _&&_ (same-refl head)
+            (ap (λ l. same (drop (14 + 16 * length ws) l) rest) first
+            ∙ ap (λ l. same l rest) (drop-at (head ++ items) rest (14 + 16 * length ws) front) ∙ same-refl rest));
+        words = rw append-assoc (words-back k ws cs (rest ++ two) v w);
+      }
+
+  module _ (block : List ℕ) (s : Numbers 256 512 block) where
+    body-again : blockLaid n b block ≡ true → body n b (wordsEvery16 k (drop 14 block)) (wordsEvery16 k (drop 22 block)) ≡ take 510 block
+    unfolding blockLaid body
+    body-again laid =
+        let ws = wordsEvery16 k (drop 14 block) in
+        let cs = wordsEvery16 k (drop 22 block) in
+        let e = and-eq-true-iff (same (take 14 block) (header n b k)) (same (drop (14 + 16 * k) (take 510 block)) (unused k)) .0 (rw r at laid) in
+        ap (λ j. header n b j ++ (itemBytes ws cs ++ unused j)) (words-length k (drop 14 block))
+        ∙ ap₂ _++_ (sym (same-eq (take 14 block) (header n b k) e.0))
+        (ap₂ _++_
+        (ap (λ t. itemBytes ws (wordsEvery16 k t)) (sym (drop-drop 8 14 block)) ∙ items-again k 498 (drop 14 block) (omega arith) (numbers-drop 14 s refl))
+        (sym (same-eq (drop (14 + 16 * k) (take 510 block)) (unused k) e.1)))
+        ∙ three-parts 14 (16 * k) 510 block (omega arith)
+
+    pub block-again : checkWrong block ≡ false → blockLaid n b block ≡ true
+        → checked (body n b (wordsEvery16 k (drop 14 block)) (wordsEvery16 k (drop 22 block))) ≡ block
+    unfolding checkWrong checked
+    block-again right laid =
+        let last = drop 510 block in
+        let check = eqb-true (fromBytes last) (checkOf (take 510 block)) (not-false _ right) in
+        ap checked (body-again laid)
+        ∙ ap (take 510 block ++_) (ap (lowBytes 2) (sym check) ∙ low-from 2 last (numbers-drop 510 s refl))
+        ∙ take-append-drop 510 block

@@ -1,0 +1,39 @@
+-- Parts of lists, and lists of so many small numbers. Assumes nothing.
+use mathlib.Core.Path.{_≡_, refl, _∙_}
+use mathlib.Core.List.{List, [], _∷_, _++_, append-nil, append-assoc}
+use Prim.Native.Nat.{ℕ, zero, suc, _+_, _-_, _≤_, _<_, min}
+use native.Mathlib.Omega.{arith}
+use lib.ListN.{length, getD, take, drop, length-take, length-drop, take-append-drop, drop-of-length-le}
+use lib.Seq.{take-all, take-take, take-add, take-at, drop-at, getD-take, getD-drop}
+
+module _ {A : Type 0} where
+  -- m elements from place j on, all among the first c
+  pub take-drop-take : (m j c : ℕ) (l : List A) → j + m ≤ c → take m (drop j (take c l)) ≡ take m (drop j l)
+  take-drop-take m zero c l h = take-take m c l (omega arith)
+  take-drop-take m (suc j) zero l h = absurd (omega arith)
+  take-drop-take m (suc j) (suc c) [] h = refl
+  take-drop-take m (suc j) (suc c) (x ∷ l) h = take-drop-take m j c l (omega arith)
+
+  -- the first a, the next b, and the others of the first c
+  pub three-parts : (a b c : ℕ) (l : List A) → a + b ≤ c → take a l ++ (take b (drop a l) ++ drop (a + b) (take c l)) ≡ take c l
+  three-parts a b c l h = rw (← append-assoc, ← take-add, ← take-take (a + b) c l h, take-append-drop)
+
+  -- the first c of m elements, and the others
+  pub two-parts : (c m : ℕ) (l r : List A) → length l ≡ min c m → length r ≡ m - c → (take c (l ++ r) ≡ l) × (drop c (l ++ r) ≡ r)
+  two-parts c m l [] p q = rw append-nil (take-all c l (omega arith), drop-of-length-le l {i = c} (omega arith))
+  two-parts c m l (x ∷ r) p q = let e : length l ≡ c = omega arith in (take-at l (x ∷ r) c e, drop-at l (x ∷ r) c e)
+
+-- m numbers below c
+pub record Numbers (c m : ℕ) (l : List ℕ) : Type 0 where
+  pub count : length l ≡ m
+  pub small : (i : ℕ) → i < m → getD l i 0 < c
+
+module _ {c m m′ : ℕ} {l : List ℕ} where
+  pub numbers-take : (k : ℕ) → Numbers c m l → min k m ≡ m′ → Numbers c m′ (take k l)
+  numbers-take k s e = record {
+    count = length-take k l ∙ omega arith;
+    small = λ i h. rw (getD-take k l i 0 (omega arith)) (s .small i (omega arith));
+  }
+
+  pub numbers-drop : (k : ℕ) → Numbers c m l → m - k ≡ m′ → Numbers c m′ (drop k l)
+  numbers-drop k s e = record { count = length-drop k l ∙ omega arith; small = λ i h. rw getD-drop (s .small (k + i) (omega arith)) }
