@@ -108,6 +108,15 @@ bit-and a b (suc j) =
     bit-half (bitAnd a b) (bitAnd (a / 2) (b / 2)) j (omega (arith, and-step a b))
     ∙ bit-and (a / 2) (b / 2) j ∙ sym (ap₂ min (bit-suc a j) (bit-suc b j))
 
+-- the slots in both, as a product
+pub bit-and-mul : (a b j : ℕ) → bit (bitAnd a b) j ≡ bit a j * bit b j
+bit-and-mul a b j = bit-and a b j ∙ go (bit a j) (bit b j) (bit-lt a j) (bit-lt b j)
+  where
+    go : (x y : ℕ) → x < 2 → y < 2 → min x y ≡ x * y
+    go zero y h g = omega arith
+    go (suc zero) y h g = omega arith
+    go (suc (suc x)) y h g = absurd (omega arith)
+
 pub bit-or : (a b j : ℕ) → bit (bitOr a b) j ≡ max (bit a j) (bit b j)
 bit-or a b zero = omega (arith, bit-zero (bitOr a b), bit-zero a, bit-zero b, or-step a b)
 bit-or a b (suc j) =
@@ -143,6 +152,10 @@ bit-single-other (suc j) (suc i) f = bit-half (2 ^ suc j) (2 ^ j) i (omega (arit
 pub low-lt : (n : ℕ) → low n < 2 ^ n
 unfolding low
 low-lt n = omega (arith, pow-pos n)
+
+pub low-suc : (n : ℕ) → suc (low n) ≡ 2 ^ n
+unfolding low
+low-suc n = omega (arith, pow-pos n)
 
 pub bit-low : (n j : ℕ) → j < n → bit (low n) j ≡ 1
 unfolding low

@@ -2,7 +2,7 @@
 use mathlib.Core.Path.{_≡_, refl, sym, ap, ap₂, _∙_, subst}
 use mathlib.Core.Logic.{_≢_, _⊎_, inl, inr, ⊎-elim}
 use Prim.Native.Nat.{ℕ, zero, suc, _+_, _-_, _*_, _/_, _%_, _^_, _≤_, _<_, min, max}
-use native.Mathlib.Nat.{lt-of-lt-of-le, lt-of-le-of-lt, pow-suc, le-antisymm}
+use native.Mathlib.Nat.{lt-of-lt-of-le, lt-of-le-of-lt, pow-suc, le-antisymm, zero-mul, one-mul, mul-assoc}
 use native.Mathlib.Decide.{ℕ-discrete, decLt, decLe}
 use native.Mathlib.Omega.{arith}
 use lib.Arith.{lt-one}
@@ -11,8 +11,8 @@ use lib.Bits.{bitAnd, bitOr, and-lt, or-lt, and-le-l, and-le-r}
 use lib.Count.{ones, ones-step, ones-ones, trailingZeros, under, trailing-le}
 use Rattle.words.specs.Word.{bit, with, without, low, minus, lowest}
 use Rattle.words.specs.Sum.{sum}
-use Rattle.words.proofs.Bits.{ext, half-lt, bit-lt, bit-cases, bit-zero, bit-suc, bit-half, bit-empty, bit-high, bit-and, bit-or, bit-minus, bit-low, bit-low-high, low-lt, bit-without, bit-without-other, without-zero, without-suc, without-le, with-zero, with-suc, at-slot}
-use Rattle.words.proofs.Sums.{sum-zero, sum-suc, sum-front, sum-cong, sum-le, sum-add}
+use Rattle.words.proofs.Bits.{ext, half-lt, bit-lt, bit-cases, bit-zero, bit-suc, bit-half, bit-empty, bit-high, bit-and, bit-and-mul, bit-or, bit-minus, bit-low, bit-low-high, low-lt, bit-without, bit-without-other, without-zero, without-suc, without-le, with-zero, with-suc, at-slot}
+use Rattle.words.proofs.Sums.{sum-zero, sum-suc, sum-front, sum-cong, sum-le, sum-add, sum-none, sum-pick}
 
 -- ---- sizes
 
@@ -66,7 +66,27 @@ ones-minus a b ha hb =
     (λ j l. omega (arith, bit-minus a b j hb l, bit-and a b j, bit-lt a j, bit-lt b j))
     ∙ sym (ones-sum 64 a ha)
 
+-- ---- sums over the slots of a word
+
+module _ (f : ℕ → ℕ) (k : ℕ) where
+  pub sum-empty : sum (λ j. bit 0 j * f j) k ≡ 0
+  sum-empty = sum-none _ k (λ j l. ap (_* f j) (bit-empty j) ∙ zero-mul (f j))
+
+  pub sum-and : (a b : ℕ) → sum (λ j. bit (bitAnd a b) j * f j) k ≡ sum (λ j. bit a j * (bit b j * f j)) k
+  sum-and a b = sum-cong _ _ k (λ j l. ap (_* f j) (bit-and-mul a b j) ∙ mul-assoc (bit a j) (bit b j) (f j))
+
+  -- one slot apart
+  pub sum-without : (w j : ℕ) → j < k → bit w j ≡ 1 → sum (λ i. bit w i * f i) k ≡ f j + sum (λ i. bit (without w j) i * f i) k
+  sum-without w j l o =
+      sum-pick (λ i. bit w i * f i) (λ i. bit (without w j) i * f i) k j l
+      (ap (_* f j) (bit-without w j) ∙ zero-mul (f j)) (λ i d. ap (_* f i) (bit-without-other w j i d))
+      ∙ ap (_+ sum (λ i. bit (without w j) i * f i) k) (ap (_* f j) o ∙ one-mul (f j))
+
 -- ---- subsets
+
+pub bit-without-le : (w j i : ℕ) → bit (without w j) i ≤ bit w i
+bit-without-le w j =
+    at-slot (λ i. bit (without w j) i ≤ bit w i) j (omega (arith, bit-without w j)) (λ i d. omega (arith, bit-without-other w j i d))
 
 pub empty : (k w : ℕ) → w < 2 ^ k → ((j : ℕ) → j < k → bit w j ≡ 0) → w ≡ 0
 empty k w h f = ext k w 0 h (pow-pos k) (λ j l. f j l ∙ sym (bit-empty j))

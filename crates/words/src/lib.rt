@@ -76,3 +76,10 @@ pub fn size(w: u64) -> usize
 {
     u64::count_ones(w) as usize
 }
+
+// A byte as an index.
+pub fn wide(x: u8) -> usize
+    ensures { λ r. ⌜ r ≡ x ⌝ }
+{
+    x as usize
+}
