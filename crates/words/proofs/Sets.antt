@@ -11,7 +11,7 @@ use lib.Bits.{bitAnd, bitOr, and-lt, or-lt, and-le-l, and-le-r}
 use lib.Count.{ones, ones-step, ones-ones, trailingZeros, under, trailing-le}
 use Rattle.words.specs.Word.{bit, with, without, low, minus, lowest}
 use Rattle.words.specs.Sum.{sum}
-use Rattle.words.proofs.Bits.{ext, half-lt, bit-lt, bit-cases, bit-zero, bit-suc, bit-half, bit-empty, bit-high, bit-and, bit-and-mul, bit-or, bit-minus, bit-low, bit-low-high, low-lt, bit-without, bit-without-other, without-zero, without-suc, without-le, with-zero, with-suc, at-slot}
+use Rattle.words.proofs.Bits.{ext, half-lt, bit-lt, bit-cases, bit-zero, bit-suc, bit-half, bit-empty, bit-high, bit-and, bit-and-mul, bit-or, bit-minus, bit-low, bit-low-high, low-lt, bit-with, bit-with-other, bit-without, bit-without-other, without-zero, without-suc, without-le, with-zero, with-suc, at-slot}
 use Rattle.words.proofs.Sums.{sum-zero, sum-suc, sum-front, sum-cong, sum-le, sum-add, sum-none, sum-pick}
 
 -- ---- sizes
@@ -84,6 +84,10 @@ module _ (f : ℕ → ℕ) (k : ℕ) where
 
 -- ---- subsets
 
+pub bit-with-le : (w j i : ℕ) → bit w i ≤ bit (with w j) i
+bit-with-le w j =
+    at-slot (λ i. bit w i ≤ bit (with w j) i) j (omega (arith, bit-with w j, bit-lt w j)) (λ i d. omega (arith, bit-with-other w j i d))
+
 pub bit-without-le : (w j i : ℕ) → bit (without w j) i ≤ bit w i
 bit-without-le w j =
     at-slot (λ i. bit (without w j) i ≤ bit w i) j (omega (arith, bit-without w j)) (λ i d. omega (arith, bit-without-other w j i d))
@@ -98,7 +102,7 @@ pub ones-subset : (k a b : ℕ) → a < 2 ^ k → b < 2 ^ k → ((j : ℕ) → j
 ones-subset k a b ha hb f = omega (arith, ones-sum k a ha, ones-sum k b hb, sum-le (bit a) (bit b) k f)
 
 -- a slot in b and not in a: a subset of b has one slot less at least
-ones-proper : (k a b j : ℕ) → a < 2 ^ k → b < 2 ^ k → ((i : ℕ) → i < k → bit a i ≤ bit b i) → bit a j ≡ 0 → bit b j ≡ 1 → ones a < ones b
+pub ones-proper : (k a b j : ℕ) → a < 2 ^ k → b < 2 ^ k → ((i : ℕ) → i < k → bit a i ≤ bit b i) → bit a j ≡ 0 → bit b j ≡ 1 → ones a < ones b
 ones-proper k a b j ha hb f e o =
     let s =
     ones-subset k a (without b j) ha (omega (arith, without-le b j))

@@ -1,0 +1,47 @@
+-- Complete tables: their slots are a plan, and an item that leaves its slot and takes another keeps them complete. Assumes nothing.
+use mathlib.Core.Path.{_≡_, refl, sym, ap, _∙_, subst}
+use mathlib.Core.Logic.{_≢_}
+use mathlib.Core.List.{List}
+use Prim.Native.Nat.{ℕ, _^_, _<_, _≤_}
+use native.Mathlib.Omega.{arith}
+use lib.ListN.{length, getD}
+use Rattle.words.specs.Word.{bit, with}
+use Rattle.model.specs.Plans.{IsPlan}
+use Rattle.augment.specs.Table.{own, at, cell, Table, Matched, Exposed, Complete}
+use Rattle.augment.specs.Search.{Assigned}
+use Rattle.augment.proofs.Moves.{same-or, release-table, release-exposed, release-stay}
+
+module _ (w o p : List ℕ) (f : ℕ) (C : Complete w o p f) where
+  pub complete-plan : IsPlan w p
+  complete-plan =
+      let T = C .table in
+      record {
+        sized = T .slots;
+        open-cell = λ x h.
+            let M = C .all x h in
+            subst (λ y. cell w y (at p x) ≡ 1) (M .owns) (T .open-cell (at p x) (M .slot) (M .held));
+        once = λ x y h g e. sym (C .all x h .owns) ∙ ap (own o) e ∙ C .all y g .owns;
+        zeros = T .zeros;
+      }
+
+  -- item x leaves its slot
+  module _ (x : ℕ) (h : x < length w) where
+    M : Matched o p f x
+    M = C .all x h
+
+    pub leave-table : Table w o p (with f (at p x))
+    leave-table = release-table w o p f (C .table) (at p x) (M .slot) (M .held)
+
+    pub leave-exposed : Exposed o p (with f (at p x)) x
+    leave-exposed = subst (Exposed o p (with f (at p x))) (M .owns) (release-exposed w o p f (C .table) (at p x) (M .slot) (M .held))
+
+    leave-stay : (y : ℕ) → y < length w → y ≢ x → Matched o p (with f (at p x)) y
+    leave-stay y g d = release-stay w o p f (C .table) (at p x) (M .slot) (M .held) y (λ e. d (e ∙ M .owns)) (C .all y g)
+
+    -- and takes another
+    pub take-complete : (cand keep : ℕ) (o′ p′ : List ℕ) (f′ k : ℕ) → Assigned w o p (with f (at p x)) x cand keep o′ p′ f′ k → Complete w o′ p′ f′
+    take-complete cand keep o′ p′ f′ k A =
+        record {
+          table = A .table;
+          all = λ y g. same-or y x (λ e. subst (Matched o′ p′ f′) (sym e) (A .holds)) (λ d. A .stay y (leave-stay y g d));
+        }

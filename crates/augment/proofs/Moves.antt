@@ -1,0 +1,136 @@
+-- The two moves of which every change of a table is made: a slot is released, and an exposed item takes a free slot.
+-- Assumes nothing.
+use mathlib.Core.Path.{_≡_, refl, sym, ap, _∙_, subst}
+use mathlib.Core.Logic.{_≢_}
+use mathlib.Core.List.{List}
+use Prim.Native.Nat.{ℕ, _≤_, _<_}
+use native.Mathlib.Decide.{ℕ-discrete}
+use native.Mathlib.Omega.{arith}
+use lib.ListN.{length, getD, set, length-set}
+use lib.Seq.{getD-set-same, getD-set-other}
+use Rattle.words.specs.Word.{bit, with, without}
+use Rattle.words.proofs.Bits.{bit-with, bit-with-other, bit-without, bit-without-other}
+use Rattle.words.proofs.Sets.{bit-with-le}
+use Rattle.augment.specs.Table.{own, at, cell, Table, Matched, Exposed}
+
+-- one of two cases
+pub same-or : {A : Type 0} (k l : ℕ) → (k ≡ l → A) → (k ≢ l → A) → A
+same-or {A} k l f g = go (ℕ-discrete k l)
+  where
+    go : Dec (k ≡ l) → A
+    go (yes e) = f e
+    go (no d) = g d
+
+module _ (w o p : List ℕ) (f : ℕ) (T : Table w o p f) where
+  -- a held slot's holder is matched
+  pub holder-matched : (k : ℕ) → k < 64 → bit f k ≡ 0 → Matched o p f (own o k)
+  holder-matched k h b =
+      let e = T .back k h b in
+      record { slot = omega (arith, e); held = ap (bit f) e ∙ b; owns = ap (own o) e }
+
+  -- so an exposed item holds none
+  pub exposed-other : (x : ℕ) → Exposed o p f x → (k : ℕ) → k < 64 → bit f k ≡ 0 → own o k ≢ x
+  exposed-other x E k h b e = E (subst (Matched o p f) e (holder-matched k h b))
+
+  -- no item holds two
+  pub once : (k l : ℕ) → k < 64 → l < 64 → bit f k ≡ 0 → bit f l ≡ 0 → own o k ≡ own o l → k ≡ l
+  once k l h g b d e = sym (T .back k h b) ∙ ap (at p) e ∙ T .back l g d
+
+  -- ---- slot k is released
+
+  module _ (k : ℕ) (h : k < 64) (b : bit f k ≡ 0) where
+    still : (l : ℕ) → bit (with f k) l ≡ 0 → bit f l ≡ 0
+    still l e = omega (arith, bit-with-le f k l)
+
+    pub release-table : Table w o p (with f k)
+    release-table =
+        record {
+          few = T .few;
+          range = T .range;
+          owners = T .owners;
+          slots = T .slots;
+          item = λ l g e. T .item l g (still l e);
+          open-cell = λ l g e. T .open-cell l g (still l e);
+          back = λ l g e. T .back l g (still l e);
+          zeros = T .zeros;
+        }
+
+    pub release-exposed : Exposed o p (with f k) (own o k)
+    release-exposed M = omega (arith, M .held, ap (bit (with f k)) (T .back k h b), bit-with f k)
+
+    pub release-stay : (x : ℕ) → x ≢ own o k → Matched o p f x → Matched o p (with f k) x
+    release-stay x d M =
+        record { slot = M .slot; held = bit-with-other f k (at p x) (λ e. d (sym (M .owns) ∙ ap (own o) e)) ∙ M .held; owns = M .owns }
+
+    pub release-new : (x : ℕ) → Matched o p (with f k) x → Matched o p f x
+    release-new x M = record { slot = M .slot; held = still (at p x) (M .held); owns = M .owns }
+
+  -- ---- item y takes slot h
+
+  module _ (y h : ℕ) (known : y < length w) (E : Exposed o p f y) (g : h < 64) (b : bit f h ≡ 1) (may : cell w y h ≡ 1) where
+    abbrev o₁ : List ℕ
+    o₁ = set o h y
+
+    abbrev p₁ : List ℕ
+    p₁ = set p y h
+
+    own-h : own o₁ h ≡ y
+    own-h = getD-set-same o h y 0 (omega (arith, T .owners))
+
+    at-y : at p₁ y ≡ h
+    at-y = getD-set-same p y h 0 (omega (arith, T .slots, T .few))
+
+    pub take-own : (l : ℕ) → l ≢ h → own o₁ l ≡ own o l
+    take-own l d = getD-set-other o h l y 0 d
+
+    pub take-at : (x : ℕ) → x ≢ y → at p₁ x ≡ at p x
+    take-at x d = getD-set-other p y x h 0 d
+
+    pub take-free : (l : ℕ) → l ≢ h → bit (without f h) l ≡ bit f l
+    take-free l d = bit-without-other f h l d
+
+    -- a slot that is held afterwards is h, or was held before by another item
+    by : {A : ℕ → Type 0} → A h → ((l : ℕ) → l < 64 → l ≢ h → bit f l ≡ 0 → A l) → (l : ℕ) → l < 64 → bit (without f h) l ≡ 0 → A l
+    by {A} a c l i e = same-or l h (λ q. subst A (sym q) a) (λ d. c l i d (sym (take-free l d) ∙ e))
+
+    pub take-table : Table w o₁ p₁ (without f h)
+    take-table =
+        record {
+          few = T .few;
+          range = T .range;
+          owners = length-set o h y ∙ T .owners;
+          slots = length-set p y h ∙ T .slots;
+          item = by {A = λ l. own o₁ l < length w} (omega (arith, own-h)) (λ l i d e. omega (arith, take-own l d, T .item l i e));
+          open-cell = by {A = λ l. cell w (own o₁ l) l ≡ 1} (ap (λ x. cell w x h) own-h ∙ may)
+              (λ l i d e. ap (λ x. cell w x l) (take-own l d) ∙ T .open-cell l i e);
+          back = by {A = λ l. at p₁ (own o₁ l) ≡ l} (ap (at p₁) own-h ∙ at-y)
+              (λ l i d e. ap (at p₁) (take-own l d) ∙ take-at (own o l) (exposed-other y E l i e) ∙ T .back l i e);
+          zeros = λ x i j. take-at x (λ e. omega arith) ∙ T .zeros x i j;
+        }
+
+    pub take-slot : at p₁ y ≡ h
+    take-slot = at-y
+
+    pub take-holds : Matched o₁ p₁ (without f h) y
+    take-holds = record { slot = omega (arith, at-y); held = ap (bit (without f h)) at-y ∙ bit-without f h; owns = ap (own o₁) at-y ∙ own-h }
+
+    pub take-stay : (x : ℕ) → Matched o p f x → Matched o₁ p₁ (without f h) x
+    take-stay x M =
+        let d : x ≢ y = λ e. E (subst (Matched o p f) e M) in
+        let e = take-at x d in
+        let s : at p x ≢ h = λ q. omega (arith, M .held, ap (bit f) q) in
+        record {
+          slot = omega (arith, e, M .slot);
+          held = ap (bit (without f h)) e ∙ take-free (at p x) s ∙ M .held;
+          owns = ap (own o₁) e ∙ take-own (at p x) s ∙ M .owns;
+        }
+
+    pub take-new : (x : ℕ) → x ≢ y → Matched o₁ p₁ (without f h) x → Matched o p f x
+    take-new x d M =
+        let e = take-at x d in
+        let s : at p x ≢ h = λ q. d (sym (M .owns) ∙ ap (own o₁) (e ∙ q) ∙ own-h) in
+        record {
+          slot = omega (arith, e, M .slot);
+          held = sym (take-free (at p x) s) ∙ ap (bit (without f h)) (sym e) ∙ M .held;
+          owns = sym (take-own (at p x) s) ∙ ap (own o₁) (sym e) ∙ M .owns;
+        }

@@ -1,0 +1,96 @@
+-- `augment::assign` meets its contract: the item takes a free slot, or the one that `vacate` has freed. Assumes nothing.
+use Prim.Native.Nat.{_<_}
+use native.Mathlib.Omega.{arith}
+use borrow.Author.Needs.{needs}
+use Rattle.augment.specs.Search.{Vacated}
+use Rattle.augment.proofs.Searches.{at-once-lt, at-once, assign-vacatable, assign-barred, assign-found}
+use Rattle.augment.proofs.assign.Statement.{statement}
+use Rattle.augment.proofs.assign.Tie as tie
+
+slot-lt : (c : tie.After-lowest) → c .lowest .result < 64
+slot-lt c =
+    let s = c .before .before .before in
+    at-once-lt _ _ _ _ _ _ _ (s .pre) _ (search needs) (c .before .if1 .taken) (c .lowest .ensures)
+
+freed-lt : (c : tie.Else2) → c .before .before .vacate .result .at < 64
+freed-lt c = c .before .before .vacate .ensures .0 (c .if2 .left) .below
+
+lowest-requires : tie.Need-lowest-requires
+lowest-requires c κs = search needs
+
+cast-owner : tie.Need-cast-owner
+cast-owner c = search needs
+
+element-write-owner : tie.Need-element-write-owner
+element-write-owner c = slot-lt c
+
+cast-slot : tie.Need-cast-slot
+cast-slot c = omega (arith, slot-lt c)
+
+element-write-slot : tie.Need-element-write-slot
+element-write-slot c = search needs
+
+without-requires : tie.Need-without-requires
+without-requires c κs = slot-lt c
+
+returns : tie.Need-returns
+returns c =
+    let s = c .before .before .before .before in (
+      λ n. rw (c .without .ensures) (at-once _ _ _ _ _ _ _ (s .pre) _ (search needs) (c .before .before .if1 .taken) (c .before .lowest .ensures)),
+      λ e. absurd (omega (arith, slot-lt (c .before))),
+    )
+
+vacate-requires : tie.Need-vacate-requires
+vacate-requires c κs = assign-vacatable _ _ _ _ _ _ _ (c .before .before .before .before .pre) (c .before .before .if1 .left)
+
+returns-2 : tie.Need-returns-2
+returns-2 c = (
+  λ n. absurd (n (c .if2 .taken)),
+  λ e.
+      let r = c .before .before .vacate .ensures .1 e in
+      (r .0, assign-barred _ _ _ _ _ _ _ (c .before .before .before .before .before .before .before .pre) _ (r .1)),
+)
+
+cast-owner-2 : tie.Need-cast-owner-2
+cast-owner-2 c = search needs
+
+element-write-owner-2 : tie.Need-element-write-owner-2
+element-write-owner-2 c = freed-lt c
+
+cast-slot-2 : tie.Need-cast-slot-2
+cast-slot-2 c = omega (arith, freed-lt c)
+
+element-write-slot-2 : tie.Need-element-write-slot-2
+element-write-slot-2 c = search needs
+
+without-requires-2 : tie.Need-without-requires-2
+without-requires-2 c κs = freed-lt c
+
+returns-3 : tie.Need-returns-3
+returns-3 c = (
+  λ n.
+      rw (c .without2 .ensures)
+      (assign-found _ _ _ _ _ _ _ (c .before .before .before .before .before .before .before .before .pre) _ _ _ _
+      (c .before .before .before .vacate .ensures .0 (c .before .if2 .left))),
+  λ e. absurd (omega (arith, freed-lt (c .before))),
+)
+
+pub assign-spec : {M : Type 1} → statement M
+assign-spec =
+    tie.close
+    (tie.spec
+    lowest-requires
+    cast-owner
+    element-write-owner
+    cast-slot
+    element-write-slot
+    without-requires
+    returns
+    vacate-requires
+    returns-2
+    cast-owner-2
+    element-write-owner-2
+    cast-slot-2
+    element-write-slot-2
+    without-requires-2
+    returns-3)
