@@ -192,7 +192,7 @@ module _ (w o p : List ℕ) (f set′ seen : ℕ) (fits : seen < 2 ^ 64) (Z : Va
               (λ e.
               let r = span-from w o set′ k (omega (arith, in-layer k h, bit-lt (span w o set′) k)) in
               let i = in-seen (r .0) (r .1) (r .2) in
-              let m = c (r .0) (r .1) (omega (arith, s (r .0) (r .1), bit-lt g (r .0))) (held-set (r .0) (r .1) (r .2)) (omega (arith, i, r .2)) k h in
+              let m = c (r .0) (r .1) (omega (arith, s (r .0) (r .1), bit-lt g (r .0))) (omega (arith, C .more (r .0) (r .1), bit-or seen layer (r .0), bit-lt t (r .0))) (omega (arith, i, r .2)) k h in
               omega (arith, bit-or seen layer k, m, r .3, bit-lt seen k))
               (λ d. omega (arith, bit-or seen layer k, s k h, bit-lt layer k)))
               (λ k h b e m. c k h b e (omega (arith, bit-or seen layer k, in-layer k h, bit-lt seen k, bit-lt (span w o set′) k)));

@@ -66,7 +66,7 @@ pub record Closed (w o : List ℕ) (f set seen t : ℕ) : Type 0 where
   pub held : (k : ℕ) → k < 64 → bit t k ≡ 1 → bit f k ≡ 0
   pub shut : (k : ℕ) → k < 64 → bit t k ≡ 1 → bit seen k ≤ bit set k → Within (getD w (own o k) 0) t
   pub least : (g : ℕ) → Within seen g
-      → ((k : ℕ) → k < 64 → bit g k ≡ 1 → bit f k ≡ 0 → bit seen k ≤ bit set k → Within (getD w (own o k) 0) g)
+      → ((k : ℕ) → k < 64 → bit g k ≡ 1 → bit t k ≡ 1 → bit seen k ≤ bit set k → Within (getD w (own o k) 0) g)
       → Within t g
 
 -- the tables are as they were
@@ -104,5 +104,5 @@ pub record Barred (w o : List ℕ) (f cand keep t : ℕ) : Type 0 where
   pub held : (k : ℕ) → k < 64 → bit t k ≡ 1 → bit f k ≡ 0
   pub shut : (k : ℕ) → k < 64 → bit t k ≡ 1 → bit keep k ≡ 0 → Within (getD w (own o k) 0) t
   pub least : (g : ℕ) → Within keep g → Within cand g
-      → ((k : ℕ) → k < 64 → bit g k ≡ 1 → bit f k ≡ 0 → bit keep k ≡ 0 → Within (getD w (own o k) 0) g)
+      → ((k : ℕ) → k < 64 → bit g k ≡ 1 → bit t k ≡ 1 → bit keep k ≡ 0 → Within (getD w (own o k) 0) g)
       → Within t g

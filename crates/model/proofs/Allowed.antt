@@ -1,22 +1,20 @@
 -- The allowed slots: which plans stand behind a bit; equal listings exactly if equal allowed words. Assumes nothing.
 use mathlib.Core.Path.{_≡_, refl, sym, ap, ap₂, _∙_, subst}
 use mathlib.Core.Logic.{_⊎_, inl, inr, _↔_}
-use mathlib.Core.List.{List, [], _∷_, map, List·Memᴰ, Memᴰ·map, Memᴰ·of-map}
+use mathlib.Core.List.{List, [], map}
 use Prim.Native.Nat.{ℕ, _^_, _<_, _≤_}
 use native.Mathlib.Omega.{arith}
-use native.Mathlib.Decide.{ℕ-discrete}
 use lib.ListN.{length, getD, replicate, length-replicate, getD-replicate}
-use lib.Pow.{pow-lt}
 use lib.Seq.{ext-getD}
 use Rattle.words.specs.Word.{bit}
 use Rattle.words.specs.Sum.{below}
-use Rattle.words.proofs.Bits.{ext, bit-lt, bit-cases, bit-single, bit-single-other, bit-one-lt}
+use Rattle.words.proofs.Bits.{ext, bit-cases, bit-one-lt}
 use Rattle.words.proofs.Sums.{map-below, length-map-below}
 use Rattle.model.specs.Sets.{union}
 use Rattle.model.specs.Plans.{plans, IsPlan}
 use Rattle.model.specs.Allowed.{allowedWord, allowedWords}
 use Rattle.model.proofs.Order.{rising-same}
-use Rattle.model.proofs.Sets.{union-into, union-from, union-lt}
+use Rattle.model.proofs.Sets.{singles-into, singles-from, singles-lt}
 use Rattle.model.proofs.Plans.{plans-rise, plan-from, plan-into}
 
 module _ (m : ℕ) (opens : List ℕ) where
@@ -39,33 +37,17 @@ module _ (m : ℕ) (opens : List ℕ) where
   module _ (few : length opens ≤ 64) (range : (i : ℕ) → i < length opens → getD opens i 0 < 2 ^ m) where
     pub allowed-into : (p : List ℕ) → IsPlan opens p → (i : ℕ) → bit (allowedWord m opens i) (getD p i 0) ≡ 1
     unfolding allowedWord
-    allowed-into p P i =
-        let s = getD p i 0 in
-        omega (
-          arith,
-          bit-single s,
-          bit-lt (allowedWord m opens i) s,
-          union-into (map (λ p. 2 ^ getD p i 0) (plans m opens)) (Memᴰ·map (λ p. 2 ^ getD p i 0) (plan-into m opens few range p P)) s,
-        )
+    allowed-into p P i = singles-into (λ q. getD q i 0) (plans m opens) (plan-into m opens few range p P)
 
     pub allowed-from : (i j : ℕ) → bit (allowedWord m opens i) j ≡ 1 → (p : List ℕ) × IsPlan opens p × (getD p i 0 ≡ j)
     unfolding allowedWord
-    allowed-from i j e =
-        let r = union-from (map (λ p. 2 ^ getD p i 0) (plans m opens)) j e in
-        let q = Memᴰ·of-map (λ p. 2 ^ getD p i 0) (plans m opens) (r .1) in
-        (q .0, plan-from m opens few range (q .0) (q .1), slot (getD (q .0) i 0) (subst (λ w. bit w j ≡ 1) (sym (q .2)) (r .2)) (ℕ-discrete j (getD (q .0) i 0)))
-      where
-        slot : (s : ℕ) → bit (2 ^ s) j ≡ 1 → Dec (j ≡ s) → s ≡ j
-        slot s o (yes e) = sym e
-        slot s o (no d) = absurd (omega (arith, bit-single-other s j d))
+    allowed-from i j e = let r = singles-from (λ q. getD q i 0) (plans m opens) j e in (r .0, plan-from m opens few range (r .0) (r .1), r .2)
 
     allowed-lt : (i : ℕ) → i < length opens → allowedWord m opens i < 2 ^ m
     unfolding allowedWord
     allowed-lt i h =
-        union-lt m (map (λ p. 2 ^ getD p i 0) (plans m opens)) (λ w l.
-        let q = Memᴰ·of-map (λ p. 2 ^ getD p i 0) (plans m opens) l in
-        let P = plan-from m opens few range (q .0) (q .1) in
-        subst (λ x. x < 2 ^ m) (q .2) (pow-lt (bit-one-lt m (getD opens i 0) (getD (q .0) i 0) (range i h) (P .open-cell i h))))
+        singles-lt (λ q. getD q i 0) m (plans m opens) (λ p l.
+        bit-one-lt m (getD opens i 0) (getD p i 0) (range i h) (plan-from m opens few range p l .open-cell i h))
 
     -- what a search has to show of a word
     pub allowed-by : (i u : ℕ) → i < length opens → u < 2 ^ m → ((j : ℕ) → bit u j ≡ 1 → (p : List ℕ) × IsPlan opens p × (getD p i 0 ≡ j))

@@ -1,20 +1,22 @@
 -- Members and unions of words. Assumes nothing.
 use mathlib.Core.Path.{_≡_, refl, sym, ap, ap₂, _∙_, subst}
-use mathlib.Core.Logic.{_⊎_, inl, inr, ⊎-elim}
+use mathlib.Core.Logic.{_≢_, _⊎_, inl, inr, ⊎-elim}
 use mathlib.Core.Bool.{Bool, true, false, cond}
-use mathlib.Core.List.{List, [], _∷_, List·Memᴰ, List·Memᴰ·head, List·Memᴰ·tail, List·Memᴰ·not-nil, List·Memᴰ·cases-cons}
-use Prim.Native.Nat.{ℕ, suc, _+_, _^_, _<_, _≤_}
+use mathlib.Core.List.{List, [], _∷_, map, List·Memᴰ, List·Memᴰ·head, List·Memᴰ·tail, List·Memᴰ·not-nil, List·Memᴰ·cases-cons, Memᴰ·map, Memᴰ·of-map}
+use Prim.Native.Nat.{ℕ, suc, _+_, _^_, _<_, _≤_, max}
+use native.Mathlib.Nat.{le-antisymm}
 use native.Mathlib.Omega.{arith}
+use native.Mathlib.Decide.{ℕ-discrete}
 use lib.Bits.{bitOr, or-lt}
 use lib.Count.{ones}
 use lib.Dec.{T}
 use lib.ListN.{length}
-use lib.Pow.{pow-pos}
-use Rattle.words.specs.Word.{bit, has}
+use lib.Pow.{pow-pos, pow-lt}
+use Rattle.words.specs.Word.{bit, has, without}
 use Rattle.words.specs.Sum.{below, total, sum}
-use Rattle.words.proofs.Bits.{bit-lt, bit-cases, bit-one, bit-none, has-in, has-bit, bit-empty, bit-or}
-use Rattle.words.proofs.Sums.{below-from, below-into}
-use Rattle.words.proofs.Sets.{ones-sum}
+use Rattle.words.proofs.Bits.{bit-lt, bit-cases, bit-one, bit-none, has-in, has-bit, bit-empty, bit-or, bit-single, bit-single-other, bit-without-other, at-slot}
+use Rattle.words.proofs.Sums.{below-from, below-into, sum-injection}
+use Rattle.words.proofs.Sets.{ones-sum, bit-without-le}
 use Rattle.model.specs.Lists.{keep}
 use Rattle.model.specs.Sets.{members, union}
 use Rattle.model.proofs.Members.{keep-from, keep-into}
@@ -80,3 +82,88 @@ pub union-lt : (k : ℕ) (l : List ℕ) → ((w : ℕ) → List·Memᴰ w l → 
 unfolding union
 union-lt k [] h = pow-pos k
 union-lt k (v ∷ l) h = or-lt k v (union l) (h v (List·Memᴰ·head refl)) (union-lt k l (λ w m. h w (List·Memᴰ·tail m)))
+
+-- ---- the union of single numbers f x, over the members x of a list
+
+module _ {A : Type 0} (f : A → ℕ) where
+  pub singles-into : {x : A} (l : List A) → List·Memᴰ x l → bit (union (map (λ y. 2 ^ f y) l)) (f x) ≡ 1
+  singles-into {x} l h =
+      let u = union (map (λ y. 2 ^ f y) l) in
+      omega (arith, union-into (map (λ y. 2 ^ f y) l) (Memᴰ·map (λ y. 2 ^ f y) h) (f x), bit-single (f x), bit-lt u (f x))
+
+  pub singles-from : (l : List A) (j : ℕ) → bit (union (map (λ y. 2 ^ f y) l)) j ≡ 1 → (x : A) × List·Memᴰ x l × (f x ≡ j)
+  singles-from l j e =
+      let r = union-from (map (λ y. 2 ^ f y) l) j e in
+      let q = Memᴰ·of-map (λ y. 2 ^ f y) l (r .1) in
+      (q .0, q .1, at (f (q .0)) (subst (λ w. bit w j ≡ 1) (sym (q .2)) (r .2)) (ℕ-discrete j (f (q .0))))
+    where
+      at : (s : ℕ) → bit (2 ^ s) j ≡ 1 → Dec (j ≡ s) → s ≡ j
+      at s o (yes e) = sym e
+      at s o (no d) = absurd (omega (arith, bit-single-other s j d))
+
+  pub singles-lt : (k : ℕ) (l : List A) → ((x : A) → List·Memᴰ x l → f x < k) → union (map (λ y. 2 ^ f y) l) < 2 ^ k
+  singles-lt k l h =
+      union-lt k (map (λ y. 2 ^ f y) l) (λ w m.
+      let q = Memᴰ·of-map (λ y. 2 ^ f y) l m in
+      subst (λ v. v < 2 ^ k) (q .2) (pow-lt (h (q .0) (q .1))))
+
+-- ---- the image of a set: f x, for the numbers x below n in it
+
+unfoldable pub image : (ℕ → ℕ) → ℕ → ℕ → ℕ
+unfolding union members
+image f n set = union (map (λ x. 2 ^ f x) (members n set))
+
+module _ (f : ℕ → ℕ) (n set : ℕ) where
+  pub image-into : (x : ℕ) → x < n → bit set x ≡ 1 → bit (image f n set) (f x) ≡ 1
+  unfolding image
+  image-into x h b = singles-into f (members n set) (members-into n set h b)
+
+  pub image-from : (j : ℕ) → bit (image f n set) j ≡ 1 → (x : ℕ) × (x < n) × (bit set x ≡ 1) × (f x ≡ j)
+  unfolding image
+  image-from j e = let r = singles-from f (members n set) j e in let b = members-from n set (r .1) in (r .0, b .0, b .1, r .2)
+
+  pub image-lt : (m : ℕ) → ((x : ℕ) → x < n → bit set x ≡ 1 → f x < m) → image f n set < 2 ^ m
+  unfolding image
+  image-lt m h = singles-lt f m (members n set) (λ x l. let b = members-from n set l in h x (b .0) (b .1))
+
+  -- an injection, with its inverse g, keeps the size
+  pub ones-image : (m : ℕ) (g : ℕ → ℕ) → set < 2 ^ n → ((x : ℕ) → x < n → bit set x ≡ 1 → f x < m) → ((x : ℕ) → x < n → bit set x ≡ 1 → g (f x) ≡ x)
+      → ones (image f n set) ≡ ones set
+  ones-image m g small below back =
+      let i = image f n set in
+      let in-set : (x : ℕ) → bit set x ≢ 0 → bit set x ≡ 1 = λ x z. omega (arith, bit-lt set x) in
+      let in-image : (j : ℕ) → bit i j ≢ 0 → bit i j ≡ 1 = λ j z. omega (arith, bit-lt i j) in
+      let from : (j : ℕ) → bit i j ≢ 0 → (g j < n) × (bit set (g j) ≡ 1) × (f (g j) ≡ j) = λ j z.
+      let r = image-from j (in-image j z) in
+      let e : g j ≡ r .0 = ap g (sym (r .3)) ∙ back (r .0) (r .1) (r .2) in
+      rw e (r .1, r .2, r .3) in
+      let there =
+      sum-injection n m (bit set) (bit i) f (λ x h z. below x h (in-set x z))
+      (λ x h z. omega (arith, image-into x h (in-set x z), in-set x z))
+      (λ x y h k z z′ e. sym (back x h (in-set x z)) ∙ ap g e ∙ back y k (in-set y z′)) in
+      let again =
+      sum-injection m n (bit i) (bit set) g (λ j h z. from j z .0)
+      (λ j h z. omega (arith, from j z .1, in-image j z))
+      (λ j k h l z z′ e. sym (from j z .2) ∙ ap f e ∙ from k z′ .2) in
+      omega (arith, there, again, ones-sum n set small, ones-sum m i (image-lt m below))
+
+-- one member apart
+pub image-pick : (f : ℕ → ℕ) (n set k : ℕ) → k < n → bit set k ≡ 1 → (j : ℕ)
+    → bit (image f n set) j ≡ max (bit (2 ^ f k) j) (bit (image f n (without set k)) j)
+image-pick f n set k h b j = le-antisymm (⊎-elim (λ z. omega arith) whole (bit-cases (image f n set) j)) (omega (arith, single, rest (bit-cases (image f n (without set k)) j)))
+  where
+    whole : bit (image f n set) j ≡ 1 → bit (image f n set) j ≤ max (bit (2 ^ f k) j) (bit (image f n (without set k)) j)
+    whole o = let r = image-from f n set j o in go (r .0) (r .1) (r .2) (r .3) (ℕ-discrete (r .0) k)
+      where
+        go : (x : ℕ) → x < n → bit set x ≡ 1 → f x ≡ j → Dec (x ≡ k) → bit (image f n set) j ≤ max (bit (2 ^ f k) j) (bit (image f n (without set k)) j)
+        go x l c e (yes q) = omega (arith, bit-single (f k), ap (bit (2 ^ f k)) (sym (ap f q) ∙ e))
+        go x l c e (no d) = omega (arith, image-into f n (without set k) x l (bit-without-other set k x d ∙ c), ap (bit (image f n (without set k))) e)
+
+    single : bit (2 ^ f k) j ≤ bit (image f n set) j
+    single = at-slot (λ i. bit (2 ^ f k) i ≤ bit (image f n set) i) (f k) (omega (arith, bit-single (f k), image-into f n set k h b)) (λ i d. omega (arith, bit-single-other (f k) i d)) j
+
+    rest : (bit (image f n (without set k)) j ≡ 0) ⊎ (bit (image f n (without set k)) j ≡ 1) → bit (image f n (without set k)) j ≤ bit (image f n set) j
+    rest (inl z) = omega arith
+    rest (inr o) =
+        let r = image-from f n (without set k) j o in
+        omega (arith, image-into f n set (r .0) (r .1) (omega (arith, r .2, bit-without-le set k (r .0), bit-lt set (r .0))), ap (bit (image f n set)) (r .3))

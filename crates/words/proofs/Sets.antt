@@ -11,7 +11,7 @@ use lib.Bits.{bitAnd, bitOr, and-lt, or-lt, and-le-l, and-le-r}
 use lib.Count.{ones, ones-step, ones-ones, trailingZeros, under, trailing-le}
 use Rattle.words.specs.Word.{bit, with, without, low, minus, lowest}
 use Rattle.words.specs.Sum.{sum}
-use Rattle.words.proofs.Bits.{ext, half-lt, bit-lt, bit-cases, bit-zero, bit-suc, bit-half, bit-empty, bit-high, bit-and, bit-and-mul, bit-or, bit-minus, bit-low, bit-low-high, low-lt, bit-with, bit-with-other, bit-without, bit-without-other, without-zero, without-suc, without-le, with-zero, with-suc, at-slot}
+use Rattle.words.proofs.Bits.{ext, half-lt, bit-lt, bit-cases, bit-zero, bit-suc, bit-half, bit-empty, bit-high, bit-and, bit-and-mul, bit-or, bit-minus, bit-low, bit-low-high, low-lt, bit-single, bit-single-other, bit-with, bit-with-other, bit-without, bit-without-other, without-zero, without-suc, without-le, with-zero, with-suc, at-slot}
 use Rattle.words.proofs.Sums.{sum-zero, sum-suc, sum-front, sum-cong, sum-le, sum-add, sum-none, sum-pick}
 
 -- ---- sizes
@@ -83,6 +83,13 @@ module _ (f : ℕ → ℕ) (k : ℕ) where
       ∙ ap (_+ sum (λ i. bit (without w j) i * f i) k) (ap (_* f j) o ∙ one-mul (f j))
 
 -- ---- subsets
+
+-- one slot more is the union with it alone
+pub bit-with-max : (w j i : ℕ) → bit (with w j) i ≡ max (bit w i) (bit (2 ^ j) i)
+bit-with-max w j =
+    at-slot (λ i. bit (with w j) i ≡ max (bit w i) (bit (2 ^ j) i)) j
+    (omega (arith, bit-with w j, bit-single j, bit-lt w j))
+    (λ i d. omega (arith, bit-with-other w j i d, bit-single-other j i d))
 
 pub bit-with-le : (w j i : ℕ) → bit w i ≤ bit (with w j) i
 bit-with-le w j =

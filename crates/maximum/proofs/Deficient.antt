@@ -1,0 +1,250 @@
+-- A maximum matching gives the deficiency: the exposed items and the holders of the dead slots are the one smallest set of
+-- greatest shortage, and it is short by the number of exposed items (Hall, König). Assumes nothing.
+use mathlib.Core.Path.{_≡_, refl, sym, ap, _∙_, subst}
+use mathlib.Core.Logic.{_≢_}
+use mathlib.Core.List.{List}
+use Prim.Native.Nat.{ℕ, _+_, _-_, _^_, _≤_, _<_, max}
+use native.Mathlib.Nat.{le-antisymm, lt-of-lt-of-le}
+use native.Mathlib.Omega.{arith}
+use lib.Bits.{bitAnd, bitOr, and-lt, or-lt}
+use lib.Count.{ones, ones-le}
+use lib.ListN.{length, getD}
+use lib.Pow.{pow-mono, pow-pos}
+use Rattle.words.specs.Word.{bit, without, minus, with, lowest}
+use Rattle.words.proofs.Bits.{ext, bit-lt, bit-empty, bit-and, bit-or, bit-minus, bit-one-lt, with-lt}
+use Rattle.words.proofs.Sets.{ones-or-and, ones-minus, ones-none, ones-subset, subset-eq, empty, minus-le, bit-with-max}
+use Rattle.words.proofs.Walk.{Walk, Turn, walk, turn}
+use Rattle.model.specs.Plans.{IsPlan}
+use Rattle.model.specs.Deficiency.{neighbours, shortBy, deficiency, deficientSet}
+use Rattle.model.proofs.Sets.{image, image-into, image-from, image-lt, ones-image, image-pick}
+use Rattle.model.proofs.Deficiency.{neighbours-into, neighbours-from, neighbours-lt, plan-none-short, deficiency-by, deficient-set-by}
+use Rattle.augment.specs.Table.{own, at, cell, Table, Matched, Exposed, Complete}
+use Rattle.augment.specs.Search.{Within}
+use Rattle.augment.proofs.Moves.{same-or, exposed-other}
+use Rattle.maximum.specs.Maximum.{Filled, holders}
+
+module _ (w o p : List ℕ) (f e d : ℕ) (F : Filled w o p f e d) where
+  abbrev n : ℕ
+  n = length w
+
+  abbrev y : ℕ
+  y = holders o d
+
+  abbrev deficient : ℕ
+  deficient = bitOr e y
+
+  holds : (k : ℕ) → k < 64 → bit d k ≡ 1 → own o k < n
+  holds k h b = F .table .item k h (F .held k h b)
+
+  holders-lt : y < 2 ^ n
+  unfolding holders
+  holders-lt = image-lt (own o) 64 d n holds
+
+  holders-from : (x : ℕ) → bit y x ≡ 1 → (k : ℕ) × (k < 64) × (bit d k ≡ 1) × (own o k ≡ x)
+  unfolding holders
+  holders-from x b = image-from (own o) 64 d x b
+
+  holders-ones : ones y ≡ ones d
+  unfolding holders
+  holders-ones = ones-image (own o) 64 d n (at p) (F .fits) holds (λ k h b. F .table .back k h (F .held k h b))
+
+  pub deficient-lt : deficient < 2 ^ n
+  deficient-lt = or-lt n e y (F .items) holders-lt
+
+  -- an exposed item holds no dead slot
+  apart : (x : ℕ) → bit e x + bit y x ≤ 1
+  apart x = same-or (bit y x) 1
+      (λ b.
+      let r = holders-from x b in
+      let z : bit e x ≢ 1 = λ c. exposed-other w o p f (F .table) x (F .exposed x c) (r .0) (r .1) (F .held (r .0) (r .1) (r .2)) (r .3) in
+      omega (arith, bit-lt e x))
+      (λ m. omega (arith, bit-lt e x, bit-lt y x))
+
+  deficient-ones : ones deficient ≡ ones e + ones d
+  deficient-ones =
+      let none : bitAnd e y ≡ 0 = empty n (bitAnd e y) (and-lt n e y (F .items) holders-lt) (λ x l. omega (arith, bit-and e y x, apart x)) in
+      omega (arith, ones-or-and n e y (F .items) holders-lt, ap ones none, ones-le 0 0 (pow-pos 0), holders-ones)
+
+  range : (x : ℕ) → x < n → getD w x 0 < 2 ^ 64
+  range = F .table .range
+
+  near-lt : (set : ℕ) → neighbours w set < 2 ^ 64
+  near-lt = neighbours-lt w 64 range
+
+  -- all slots open to it are dead
+  near-deficient : Within (neighbours w deficient) d
+  near-deficient k h = same-or (bit (neighbours w deficient) k) 1
+      (λ b.
+      let r = neighbours-from w deficient k b in
+      same-or (bit e (r .0)) 1
+      (λ c. omega (arith, r .3, F .all (r .0) (r .1) c k h))
+      (λ m.
+      let q = holders-from (r .0) (omega (arith, r .2, bit-or e y (r .0), bit-lt e (r .0))) in
+      omega (arith, r .3, ap (λ x. cell w x k) (q .3), F .shut (q .0) (q .1) (q .2) k h)))
+      (λ m. omega (arith, bit-lt (neighbours w deficient) k))
+
+  -- ---- any other set
+
+  module _ (set : ℕ) (small : set < 2 ^ n) where
+    wide : (x : ℕ) → x < 2 ^ n → x < 2 ^ 64
+    wide x h = lt-of-lt-of-le h (pow-mono (F .table .few))
+
+    -- its matched items
+    abbrev matched : ℕ
+    matched = minus set e
+
+    matched-lt : matched < 2 ^ n
+    matched-lt = omega (arith, minus-le set e)
+
+    in-matched : (x : ℕ) → x < n → bit matched x ≡ 1 → (bit set x ≡ 1) × Matched o p f x
+    in-matched x h b =
+        let r = bit-minus set e x (wide e (F .items)) (omega (arith, F .table .few)) in
+        (omega (arith, bit-lt set x), F .matched x h (omega (arith, bit-lt e x)))
+
+    -- their slots
+    abbrev seats : ℕ
+    seats = image (at p) n matched
+
+    seats-ones : ones seats ≡ ones matched
+    seats-ones =
+        ones-image (at p) n matched 64 (own o) matched-lt (λ x h b. in-matched x h b .1 .slot) (λ x h b. in-matched x h b .1 .owns)
+
+    seats-lt : seats < 2 ^ 64
+    seats-lt = image-lt (at p) n matched 64 (λ x h b. in-matched x h b .1 .slot)
+
+    seats-near : Within seats (neighbours w set)
+    seats-near k h = same-or (bit seats k) 1
+        (λ b.
+        let r = image-from (at p) n matched k b in
+        let M = in-matched (r .0) (r .1) (r .2) in
+        let c = F .table .open-cell (at p (r .0)) (M .1 .slot) (M .1 .held) in
+        let c′ : cell w (r .0) k ≡ 1 = ap (cell w (r .0)) (sym (r .3)) ∙ ap (λ x. cell w x (at p (r .0))) (sym (M .1 .owns)) ∙ c in
+        omega (arith, neighbours-into w set (r .0) k (r .1) (M .0), bit-lt seats k))
+        (λ m. omega (arith, bit-lt seats k))
+
+    sizes : (ones matched + ones (bitAnd set e) ≡ ones set) × (ones matched ≤ ones (neighbours w set)) × (ones (bitAnd set e) ≤ ones e)
+    sizes = (
+      ones-minus set e (wide set small) (wide e (F .items)),
+      omega (arith, seats-ones, ones-subset 64 seats (neighbours w set) seats-lt (near-lt set) seats-near),
+      ones-subset n (bitAnd set e) e (and-lt n set e small (F .items)) (F .items) (λ x l. omega (arith, bit-and set e x)),
+    )
+
+    at-most : shortBy w set ≤ ones e
+    unfolding shortBy
+    at-most = let s = sizes in omega (arith, s .0, s .1, s .2)
+
+    -- if it is as short, it has every exposed item, and its matched items hold all slots open to it; so it has the holders of the dead slots
+    module _ (some : e ≢ 0) (short : shortBy w set ≡ ones e) where
+      tight : (ones (bitAnd set e) ≡ ones e) × (ones seats ≡ ones (neighbours w set))
+      unfolding shortBy
+      tight =
+          let s = sizes in
+          let pos : ones e ≢ 0 = λ z. some (ones-none n e (F .items) z) in
+          (omega (arith, s .0, s .1, s .2, pos), omega (arith, s .0, s .1, s .2, seats-ones, pos))
+
+      has-exposed : (x : ℕ) → bit e x ≤ bit set x
+      has-exposed x =
+          let same : bitAnd set e ≡ e =
+          subset-eq n (bitAnd set e) e (and-lt n set e small (F .items)) (F .items) (λ x l. omega (arith, bit-and set e x)) (tight .0) in
+          omega (arith, bit-and set e x, ap (λ v. bit v x) same)
+
+      near-held : (k : ℕ) → bit (neighbours w set) k ≡ 1 → (bit set (own o k) ≡ 1) × (own o k < n)
+      near-held k b =
+          let same : seats ≡ neighbours w set = subset-eq 64 seats (neighbours w set) seats-lt (near-lt set) seats-near (tight .1) in
+          let r = image-from (at p) n matched k (ap (λ v. bit v k) same ∙ b) in
+          let M = in-matched (r .0) (r .1) (r .2) in
+          let q : own o k ≡ r .0 = ap (own o) (sym (r .3)) ∙ M .1 .owns in
+          (ap (bit set) q ∙ M .0, omega (arith, r .1))
+
+      dead-near : Within d (neighbours w set)
+      dead-near =
+          F .least (neighbours w set)
+          (λ x h b k g. neighbours-into w set x k h (omega (arith, has-exposed x, bit-lt set x)))
+          (λ k h b c l g. let r = near-held k b in neighbours-into w set (own o k) l (r .1) (r .0))
+
+      within : (x : ℕ) → bit deficient x ≤ bit set x
+      within x = same-or (bit y x) 1
+          (λ b.
+          let r = holders-from x b in
+          let m = near-held (r .0) (omega (arith, dead-near (r .0) (r .1), r .2, bit-lt (neighbours w set) (r .0))) in
+          omega (arith, ap (bit set) (r .3), m .0, bit-lt deficient x))
+          (λ m. omega (arith, bit-or e y x, has-exposed x, bit-lt y x))
+
+  -- ---- the theorem
+
+  short-is : shortBy w deficient ≡ ones e
+  unfolding shortBy
+  short-is =
+      let near = ones-subset 64 (neighbours w deficient) d (near-lt deficient) (F .fits) near-deficient in
+      le-antisymm (at-most deficient deficient-lt) (omega (arith, deficient-ones, near))
+
+  none-dead : e ≡ 0 → deficient ≡ 0
+  none-dead z =
+      let no : (x : ℕ) → bit e x ≡ 0 = λ x. ap (λ v. bit v x) z ∙ bit-empty x in
+      let dead = F .least 0 (λ x h b. absurd (omega (arith, no x))) (λ k h b c. absurd (omega (arith, bit-empty k))) in
+      empty n deficient deficient-lt (λ x l. same-or (bit y x) 1
+      (λ b. let r = holders-from x b in absurd (omega (arith, dead (r .0) (r .1), r .2, bit-empty (r .0))))
+      (λ m. omega (arith, bit-or e y x, no x, bit-lt y x)))
+
+  pub deficiency-is : deficiency w ≡ ones e
+  deficiency-is = deficiency-by w deficient deficient-lt (λ set h. subst (λ v. shortBy w set ≤ v) (sym short-is) (at-most set h)) ∙ short-is
+
+  pub deficient-set-is : deficientSet w ≡ deficient
+  deficient-set-is =
+      deficient-set-by w deficient deficient-lt (λ set h. subst (λ v. shortBy w set ≤ v) (sym short-is) (at-most set h))
+      (λ set h s x l. same-or e 0
+      (λ z. omega (arith, ap (λ v. bit v x) (none-dead z), bit-empty x))
+      (λ m. within set h m (s ∙ short-is) x))
+
+  -- with an item exposed there is no plan, with none the table is complete (Hall)
+  pub exposed-no-plan : e ≢ 0 → (q : List ℕ) → IsPlan w q → ⊥
+  exposed-no-plan m q Q =
+      m (ones-none n e (F .items) (sym short-is ∙ plan-none-short w 64 range q Q deficient deficient-lt))
+
+  pub none-exposed-complete : e ≡ 0 → Complete w o p f
+  none-exposed-complete z = record { table = F .table; all = λ x h. F .matched x h (ap (λ v. bit v x) z ∙ bit-empty x) }
+
+-- ---- the loop of `deficient_set`
+
+pub record Gathering (o : List ℕ) (e d all left : ℕ) : Type 0 where
+  pub walk : Walk d left
+  pub fits : all < 2 ^ 64
+  pub whole : (x : ℕ) → max (bit all x) (bit (holders o left) x) ≡ bit (bitOr e (holders o d)) x
+
+module _ (o : List ℕ) (e d : ℕ) (items : (k : ℕ) → k < 64 → bit d k ≡ 1 → own o k < 64) where
+  pub gathering-start : e < 2 ^ 64 → d < 2 ^ 64 → Gathering o e d e d
+  gathering-start he hd = record { walk = walk d hd; fits = he; whole = λ x. sym (bit-or e (holders o d) x) }
+
+  pub gathering-end : (all left : ℕ) → e < 2 ^ 64 → Gathering o e d all left → left ≡ 0 → all ≡ bitOr e (holders o d)
+  unfolding holders
+  gathering-end all left he G z =
+      ext 64 all (bitOr e (holders o d)) (G .fits) (or-lt 64 e (holders o d) he (image-lt (own o) 64 d 64 items))
+      (λ x h. omega (arith, G .whole x, none x))
+    where
+      none : (x : ℕ) → bit (holders o left) x ≡ 0
+      none x = same-or (bit (holders o left) x) 1
+          (λ b. let r = image-from (own o) 64 left x b in absurd (omega (arith, r .2, ap (λ v. bit v (r .0)) z, bit-empty (r .0))))
+          (λ m. omega (arith, bit-lt (holders o left) x))
+
+  module _ (all left k : ℕ) (G : Gathering o e d all left) (z : left ≢ 0) (ek : k ≡ lowest left) where
+    visit : Turn d left k
+    visit = subst (Turn d left) (sym ek) (turn d left (G .walk) z)
+
+    pub gathering-slot : k < 64
+    gathering-slot = visit .below
+
+    pub gathering-item : (h : ℕ) → h ≡ own o k → h < 64
+    gathering-item h eh = rw eh (items k (visit .below) (visit .from))
+
+    pub gathering-turn : (h rest more : ℕ) → h ≡ own o k → rest ≡ without left (lowest left) → more ≡ with all h → (rest < left) × Gathering o e d more rest
+    unfolding holders
+    gathering-turn h rest more eh er em =
+        let r : rest ≡ without left k = er ∙ ap (without left) (sym ek) in
+        rw (r, em, eh) (
+          visit .less,
+          record {
+            walk = visit .next;
+            fits = with-lt 64 all (own o k) (G .fits) (items k (visit .below) (visit .from));
+            whole = λ x. omega (arith, G .whole x, bit-with-max all (own o k) x, image-pick (own o) 64 left k (visit .below) (visit .here) x);
+          },
+        )

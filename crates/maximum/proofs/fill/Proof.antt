@@ -1,0 +1,97 @@
+-- `maximum::fill` meets its contract: a turn gives the lowest item that is left a slot, or adds it to the exposed ones.
+-- Assumes nothing.
+use mathlib.Core.Path.{_≡_}
+use native.Mathlib.Omega.{arith}
+use borrow.Author.Needs.{needs}
+use Prim.Native.Nat.{_<_}
+use lib.ListN.{length}
+use Rattle.augment.specs.Search.{Assignable}
+use Rattle.maximum.proofs.Filling.{Filling, filling-start, filling-end, filling-item, filling-less, filling-assignable, filling-found, filling-failed}
+use Rattle.maximum.proofs.fill.Statement.{statement}
+use Rattle.maximum.proofs.fill.Tie as tie
+
+abbrev Inv-loop : tie.InvT-loop
+Inv-loop opens owner₀ slot₀ free todo f₀ exposed₀ dead₀ left₀ owner slot f exposed dead left = Filling opens todo owner slot f exposed dead left
+
+abbrev μ-loop : tie.MeasureT-loop
+μ-loop opens owner₀ slot₀ free todo f₀ exposed₀ dead₀ left₀ owner slot f exposed dead left = left
+
+item : (c : tie.After-without-lowest Inv-loop μ-loop) → c .before .lowest .result < length (c .before .before .before .before .before .args .opens .now)
+item c =
+    filling-item _ _ _ _ _ _ _ _ _ (c .without-lowest .result) 0 (c .before .before .before .loop .inv) (c .before .before .loop-test .taken) (c .before .lowest .ensures)
+    (c .without-lowest .ensures)
+
+loop-holds : tie.Need-loop-holds Inv-loop μ-loop
+loop-holds c = filling-start _ _ _ _ _ (search needs) (c .before .pre)
+
+lowest-requires : tie.Need-lowest-requires Inv-loop μ-loop
+lowest-requires c κs = search needs
+
+without-lowest-requires : tie.Need-without-lowest-requires Inv-loop μ-loop
+without-lowest-requires c κs = c .before .loop-test .taken
+
+mul-minus : tie.Need-mul-minus Inv-loop μ-loop
+mul-minus c = omega (arith, item c, c .before .before .before .loop .inv .table .few)
+
+shared-slice-read-minus : tie.Need-shared-slice-read-minus Inv-loop μ-loop
+shared-slice-read-minus c = item (c .before)
+
+minus-requires : tie.Need-minus-requires Inv-loop μ-loop
+minus-requires c κs = search needs
+
+assign-requires : tie.Need-assign-requires Inv-loop μ-loop
+assign-requires c κs =
+    let m = c .before .before in
+    let v = m .before .before in
+    filling-assignable _ _ _ _ _ _ _ _ _ _ _ (v .before .before .before .loop .inv) (v .before .before .loop-test .taken) (v .before .lowest .ensures) (v .without-lowest .ensures)
+    (m .minus .ensures)
+
+with-requires : tie.Need-with-requires Inv-loop μ-loop
+with-requires c κs = let v = c .before .before .before .before .before .before .before in omega (arith, item v, v .before .before .before .loop .inv .table .few)
+
+less : (c : tie.After-without-lowest Inv-loop μ-loop) → c .without-lowest .result < c .before .before .before .loop .left
+less c =
+    filling-less _ _ _ _ _ _ _ _ _ _ 0 (c .before .before .before .loop .inv) (c .before .before .loop-test .taken) (c .before .lowest .ensures) (c .without-lowest .ensures)
+
+loop-less : tie.Need-loop-less Inv-loop μ-loop
+loop-less c = less (c .before .before .before .before .before .before .before .before)
+
+loop-again : tie.Need-loop-again Inv-loop μ-loop
+loop-again c =
+    let m = c .before .before .before .before .before .before in
+    let v = m .before .before in
+    filling-failed _ _ _ _ _ _ _ _ _ _ _ (v .before .before .before .loop .inv) (v .before .before .loop-test .taken) (v .before .lowest .ensures) (v .without-lowest .ensures)
+    (m .minus .ensures) _ _ _ _ (search needs) (c .with .ensures) (c .before .before .before .assign .ensures .1 (c .before .if1 .taken))
+
+loop-less-2 : tie.Need-loop-less-2 Inv-loop μ-loop
+loop-less-2 c = less (c .before .before .before .before .before .before .before)
+
+loop-again-2 : tie.Need-loop-again-2 Inv-loop μ-loop
+loop-again-2 c =
+    let m = c .before .before .before .before .before in
+    let v = m .before .before in
+    filling-found _ _ _ _ _ _ _ _ _ _ _ (v .before .before .before .loop .inv) (v .before .before .loop-test .taken) (v .before .lowest .ensures) (v .without-lowest .ensures)
+    (m .minus .ensures) _ _ _ _ (c .before .before .assign .ensures .0 (c .if1 .left))
+
+returns : tie.Need-returns Inv-loop μ-loop
+returns c = filling-end _ _ _ _ _ _ _ _ (c .before .loop .inv) (c .loop-test .left)
+
+pub fill-spec : {M : Type 1} → statement M
+fill-spec =
+    tie.close
+    (tie.spec
+    Inv-loop
+    μ-loop
+    loop-holds
+    lowest-requires
+    without-lowest-requires
+    mul-minus
+    shared-slice-read-minus
+    minus-requires
+    assign-requires
+    with-requires
+    loop-less
+    loop-again
+    loop-less-2
+    loop-again-2
+    returns)

@@ -1,0 +1,36 @@
+-- What a maximum matching is given and gives. w, o, p, f as in augment's Table; e the exposed items, d the dead slots.
+-- Assumes nothing.
+use mathlib.Core.Path.{_≡_}
+use mathlib.Core.List.{List}
+use Prim.Native.Nat.{ℕ, _^_, _≤_, _<_}
+use lib.ListN.{length, getD}
+use Rattle.words.specs.Word.{bit}
+use Rattle.model.proofs.Sets.{image}
+use Rattle.augment.specs.Table.{own, Table, Matched, Exposed}
+use Rattle.augment.specs.Search.{Within}
+
+-- the items of a word hold no slot, the others do
+pub record Fillable (w o p : List ℕ) (f todo : ℕ) : Type 0 where
+  pub table : Table w o p f
+  pub items : todo < 2 ^ length w
+  pub exposed : (x : ℕ) → bit todo x ≡ 1 → Exposed o p f x
+  pub matched : (x : ℕ) → x < length w → bit todo x ≡ 0 → Matched o p f x
+
+-- The items of e hold no slot, the others do. The slots of d are held; all slots open to their holders and to the items of e are in d;
+-- and d is the least such set.
+pub record Filled (w o p : List ℕ) (f e d : ℕ) : Type 0 where
+  pub table : Table w o p f
+  pub items : e < 2 ^ length w
+  pub exposed : (x : ℕ) → bit e x ≡ 1 → Exposed o p f x
+  pub matched : (x : ℕ) → x < length w → bit e x ≡ 0 → Matched o p f x
+  pub fits : d < 2 ^ 64
+  pub held : (k : ℕ) → k < 64 → bit d k ≡ 1 → bit f k ≡ 0
+  pub shut : (k : ℕ) → k < 64 → bit d k ≡ 1 → Within (getD w (own o k) 0) d
+  pub all : (x : ℕ) → x < length w → bit e x ≡ 1 → Within (getD w x 0) d
+  pub least : (g : ℕ) → ((x : ℕ) → x < length w → bit e x ≡ 1 → Within (getD w x 0) g)
+      → ((k : ℕ) → k < 64 → bit g k ≡ 1 → bit d k ≡ 1 → Within (getD w (own o k) 0) g) → Within d g
+
+-- the holders of the slots of a set
+unfoldable pub holders : List ℕ → ℕ → ℕ
+unfolding image
+holders o set = image (own o) 64 set

@@ -1,0 +1,65 @@
+// Maximum matchings, and the deficient set that shows that no matching is larger (document 01's shortage). The tables are those
+// of `augment`.
+ghost use mathlib.Core.Path.{_≡_};
+ghost use Prim.Native.Nat.{ℕ, _^_, _≤_, _<_};
+ghost use lib.Bits.{bitOr};
+ghost use lib.ListN.{length, getD};
+ghost use Rattle.words.specs.Word.{bit};
+ghost use Rattle.augment.specs.Table.{own};
+ghost use Rattle.maximum.specs.Maximum.{Fillable, Filled, holders};
+
+// The free slots, the exposed items, and the dead slots: those that no item may use in any matching that serves more.
+pub struct Maximum {
+    pub free: u64,
+    pub exposed: u64,
+    pub dead: u64,
+}
+
+// Each item of `todo`, none of which holds a slot, gets one if that is possible without exposing another.
+pub fn fill(
+    opens: &[u64],
+    owner: &mut [u8; 64],
+    slot: &mut [u8; 64],
+    free: u64,
+    todo: u64,
+) -> Maximum
+    requires { ⌜ Fillable (now opens) (now owner) (now slot) free todo ⌝ }
+    ensures { λ r. ⌜ Filled (now (opens .entry)) (now (owner .exit)) (now (slot .exit)) (r .free) (r .exposed) (r .dead) ⌝ }
+{
+    let mut f = free;
+    let mut exposed: u64 = 0;
+    let mut dead: u64 = 0;
+    let mut left = todo;
+    while left != 0 {
+        let x = words::lowest(left);
+        left = words::without_lowest(left);
+        let cand = words::minus(opens[x], dead);
+        let r = augment::assign(opens, owner, slot, f, x, cand, dead);
+        if r.at == 64 {
+            exposed = words::with(exposed, x);
+            dead = r.word;
+        } else {
+            f = r.word;
+        }
+    }
+    Maximum {
+        free: f,
+        exposed: exposed,
+        dead: dead,
+    }
+}
+
+// The deficient set: the exposed items and the holders of the dead slots.
+pub fn deficient_set(owner: &[u8; 64], exposed: u64, dead: u64) -> u64
+    requires { ⌜ (length (now owner) ≡ 64) × ((k : ℕ) → k < 64 → bit dead k ≡ 1 → own (now owner) k < 64) ⌝ }
+    ensures { λ r. ⌜ r ≡ bitOr exposed (holders (now (owner .entry)) dead) ⌝ }
+{
+    let mut all = exposed;
+    let mut left = dead;
+    while left != 0 {
+        let y = augment::holder(owner, words::lowest(left));
+        left = words::without_lowest(left);
+        all = words::with(all, y);
+    }
+    all
+}
