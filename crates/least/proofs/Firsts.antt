@@ -1,0 +1,98 @@
+-- What `settle` leaves is the least plan, and `first_plan` gives the model's first one. Assumes nothing.
+use mathlib.Core.Path.{_≡_, refl, sym, ap, _∙_, subst}
+use mathlib.Core.Logic.{_≢_, _⊎_, inl, inr, ⊎-elim}
+use mathlib.Core.List.{List}
+use Prim.Native.Nat.{ℕ, _^_, _≤_, _<_}
+use native.Mathlib.Omega.{arith}
+use native.Mathlib.Decide.{decLt}
+use lib.Bits.{bitOr}
+use lib.Count.{ones}
+use lib.ListN.{length, getD, replicate, getD-replicate}
+use Rattle.words.specs.Word.{bit, low}
+use Rattle.words.proofs.Bits.{bit-lt, bit-low, bit-empty, low-lt, bit-one-lt}
+use Rattle.model.specs.declared.PlanAnswer.{PlanAnswer}
+use Rattle.model.specs.Plans.{plans, blank, IsPlan}
+use Rattle.model.specs.Deficiency.{deficiency}
+use Rattle.model.specs.Answers.{firstOf, given, deficient}
+use Rattle.model.proofs.Order.{Before, before-total, before-place}
+use Rattle.model.proofs.Laws.{first-of, first-of-none}
+use Rattle.augment.specs.Table.{at, Table, Complete}
+use Rattle.maximum.specs.Maximum.{Fillable, Filled, holders}
+use Rattle.maximum.proofs.Deficient.{deficiency-is, deficient-set-is, exposed-no-plan, none-exposed-complete}
+use Rattle.least.specs.Least.{Prefix, Settleable, Same-to, Settled}
+
+-- ---- no table yet
+
+module _ (w : List ℕ) (few : length w ≤ 64) (range : (x : ℕ) → x < length w → getD w x 0 < 2 ^ 64) where
+  empty-table : Table w (replicate 64 0) (replicate 64 0) (low 64)
+  empty-table =
+      record {
+        few = few;
+        range = range;
+        owners = refl;
+        slots = refl;
+        item = λ k h b. absurd (omega (arith, bit-low 64 k h));
+        open-cell = λ k h b. absurd (omega (arith, bit-low 64 k h));
+        back = λ k h b. absurd (omega (arith, bit-low 64 k h));
+        zeros = λ x h g. getD-replicate 64 x 0 0 g;
+      }
+
+  pub all-fillable : (todo : ℕ) → todo ≡ low (length w) → Fillable w (replicate 64 0) (replicate 64 0) (low 64) todo
+  all-fillable todo e =
+      rw e
+      (record {
+        table = empty-table;
+        items = low-lt (length w);
+        exposed = λ x b M. omega (arith, M .held, bit-low 64 (at (replicate 64 0) x) (M .slot));
+        matched = λ x h b. absurd (omega (arith, bit-low (length w) x h));
+      })
+
+  -- no item is before the first
+  pub whole-settleable : (o p : List ℕ) (f : ℕ) → Complete w o p f → Settleable w o p f 0 0
+  whole-settleable o p f C =
+      record {
+        before = record {
+          complete = C;
+          held = λ k h b. absurd (omega (arith, bit-empty k));
+          only = λ k h b. absurd (omega (arith, bit-empty k));
+          all = λ k h b l. absurd (omega arith);
+        };
+        within = omega arith;
+      }
+
+-- ---- a plan that gives the items before `from` the same slots is the settled one, or comes after it
+
+pub settled-before : (w p : List ℕ) (from : ℕ) (r : List ℕ) → Settled w p from r → (q : List ℕ) → IsPlan w q → Same-to q r from → (q ≡ r) ⊎ Before r q
+settled-before w p from r S q Q A = go (before-total q r (Q .sized ∙ sym (S .plan .sized)))
+  where
+    -- q can't come first: at the first place at which they differ r is least
+    not-first : Before q r → ⊥
+    not-first b =
+        let d = before-place q r (Q .sized ∙ sym (S .plan .sized)) b in
+        place (d .0) (d .1) (d .2) (d .3) (decLt (d .0) (length w)) (decLt (d .0) from)
+      where
+        place : (i : ℕ) → i < length q → Same-to q r i → at q i < at r i → Dec (i < length w) → Dec (i < from) → ⊥
+        place i h a l d (yes e) = omega (arith, A i e)
+        place i h a l (yes g) (no e) = omega (arith, S .least i (omega arith) g q Q a)
+        place i h a l (no g) (no e) = omega (arith, S .plan .zeros i (omega arith) (omega (arith, Q .sized)))
+
+    go : (q ≡ r) ⊎ (Before q r ⊎ Before r q) → (q ≡ r) ⊎ Before r q
+    go (inl e) = inl e
+    go (inr (inl b)) = absurd (not-first b)
+    go (inr (inr b)) = inr b
+
+-- ---- the answers
+
+module _ (w : List ℕ) (few : length w ≤ 64) (range : (x : ℕ) → x < length w → getD w x 0 < 2 ^ 64) where
+  pub first-found : (p r : List ℕ) → Settled w p 0 r
+      → _≡_ {A = PlanAnswer} (record { code = 0; shortage = 0; items = 0; callouts = 0; plan = record { slots = r } }) (firstOf w (plans 64 w))
+  unfolding given
+  first-found p r S = sym (first-of 64 w few range r (S .plan) (λ q Q. settled-before w p 0 r S q Q (λ l h. absurd (omega arith))))
+
+  pub first-none : (o p : List ℕ) (f e d size set : ℕ) → Filled w o p f e d → e ≢ 0 → size ≡ ones e → set ≡ bitOr e (holders o d)
+      → _≡_ {A = PlanAnswer} (record { code = 9; shortage = size; items = set; callouts = 0; plan = record { slots = blank } }) (firstOf w (plans 64 w))
+  unfolding deficient
+  first-none o p f e d size set F some es et =
+      ap (λ s. record { code = 9; shortage = s; items = set; callouts = 0; plan = record { slots = blank } }) (es ∙ sym (deficiency-is w o p f e d F))
+      ∙ ap (λ t. record { code = 9; shortage = deficiency w; items = t; callouts = 0; plan = record { slots = blank } }) (et ∙ sym (deficient-set-is w o p f e d F))
+      ∙ sym (first-of-none 64 w few range (exposed-no-plan w o p f e d F some))

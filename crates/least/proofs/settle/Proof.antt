@@ -1,0 +1,67 @@
+-- `least::settle` meets its contract: a turn gives one item more its least slot. Assumes nothing.
+use mathlib.Core.Path.{refl}
+use native.Mathlib.Omega.{arith}
+use Prim.Native.Nat.{_-_}
+use lib.ListN.{length}
+use Rattle.least.proofs.Settles.{Settling, settling-start, settling-sinkable, settling-slot, settling-turn, settling-end}
+use Rattle.least.proofs.settle.Statement.{statement}
+use Rattle.least.proofs.settle.Tie as tie
+
+abbrev Inv-loop : tie.InvT-loop
+Inv-loop opens owner₀ slot₀ free from keep table f₀ kept₀ i₀ owner slot f kept i = Settling opens slot₀ from owner slot f kept i
+
+abbrev μ-loop : tie.MeasureT-loop
+μ-loop opens owner₀ slot₀ free from keep table f₀ kept₀ i₀ owner slot f kept i = length opens - i
+
+later-requires : tie.Need-later-requires Inv-loop μ-loop
+later-requires c κs = c .before .pre .before .complete .table .few
+
+loop-holds : tie.Need-loop-holds Inv-loop μ-loop
+loop-holds c = settling-start _ _ _ _ _ _ (c .before .before .pre)
+
+mul-after : tie.Need-mul-after Inv-loop μ-loop
+mul-after c = omega (arith, c .before .loop .inv .before .complete .table .few)
+
+array-read-after : tie.Need-array-read-after Inv-loop μ-loop
+array-read-after c = omega (arith, c .before .loop .inv .before .complete .table .few)
+
+sink-requires : tie.Need-sink-requires Inv-loop μ-loop
+sink-requires c κs =
+    let l = c .before .before .before in
+    settling-sinkable _ _ _ _ _ _ _ _ (l .loop .inv) (c .before .before .loop-test .taken) (l .before .later .result) _ (l .before .later .ensures) refl
+
+with-requires : tie.Need-with-requires Inv-loop μ-loop
+with-requires c κs =
+    let l = c .before .before .before .before in
+    settling-slot _ _ _ _ _ _ _ _ (l .loop .inv) (c .before .before .before .loop-test .taken) _ _ _ _ (c .sink .ensures)
+
+add-i : tie.Need-add-i Inv-loop μ-loop
+add-i c = omega arith
+
+loop-less : tie.Need-loop-less Inv-loop μ-loop
+loop-less c = omega arith
+
+loop-again : tie.Need-loop-again Inv-loop μ-loop
+loop-again c =
+    let l = c .before .before .before .before .before in
+    settling-turn _ _ _ _ _ _ _ _ (l .loop .inv) (c .before .before .before .before .loop-test .taken) _ _ _ _ (c .before .sink .ensures) _ (c .with .ensures)
+
+returns : tie.Need-returns Inv-loop μ-loop
+returns c = settling-end _ _ _ _ _ _ _ _ (c .before .loop .inv) (c .loop-test .left)
+
+pub settle-spec : {M : Type 1} → statement M
+settle-spec =
+    tie.close
+    (tie.spec
+    Inv-loop
+    μ-loop
+    later-requires
+    loop-holds
+    mul-after
+    array-read-after
+    sink-requires
+    with-requires
+    add-i
+    loop-less
+    loop-again
+    returns)

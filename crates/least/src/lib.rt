@@ -1,0 +1,160 @@
+// The least perfect matching (document 01's first plan): a complete table is made least item by item, with the slots of the items
+// before left to them. The tables are those of `augment`.
+ghost use mathlib.Core.Path.{_≡_};
+ghost use mathlib.Core.Logic.{_≢_};
+ghost use Prim.Native.Nat.{ℕ, _≤_, _<_};
+ghost use lib.ListN.{length, getD};
+ghost use Rattle.model.specs.Plans.{plans};
+ghost use Rattle.model.specs.Answers.{firstOf};
+ghost use Rattle.augment.specs.Search.{Same};
+ghost use Rattle.least.specs.Least.{Shiftable, Shifted, Stuck, Lowerable, Lowered, Later, Sinkable, Settleable, Settled};
+use augment::Found;
+use model::Plan;
+use model::PlanAnswer;
+
+// Item x moves to a slot of `cand` if that is possible with the slots of `keep` left to their holders.
+pub fn shift(
+    opens: &[u64],
+    owner: &mut [u8; 64],
+    slot: &mut [u8; 64],
+    free: u64,
+    x: usize,
+    cand: u64,
+    keep: u64,
+) -> Found
+    requires { ⌜ Shiftable (now opens) (now owner) (now slot) free x cand keep ⌝ }
+    ensures found { λ r. ⌜ (r .at ≢ 64 → Shifted (now (opens .entry)) (now (owner .entry)) x cand keep (now (owner .exit)) (now (slot .exit)) (r .word) (r .at)) ⌝ }
+    ensures none { λ r. ⌜ (r .at ≡ 64 → Same (now (owner .entry)) (now (slot .entry)) (now (owner .exit)) (now (slot .exit)) × Stuck (now (opens .entry)) (now (owner .entry)) x cand keep) ⌝ }
+{
+    let s = words::wide(slot[x]);
+    augment::assign(opens, owner, slot, words::with(free, s), x, cand, keep)
+}
+
+// Item x, which holds a slot of `may`, moves to the least of these that leaves the slots of `keep` to their holders.
+pub fn lower(
+    opens: &[u64],
+    owner: &mut [u8; 64],
+    slot: &mut [u8; 64],
+    free: u64,
+    x: usize,
+    may: u64,
+    keep: u64,
+) -> Found
+    requires { ⌜ Lowerable (now opens) (now owner) (now slot) free x may keep ⌝ }
+    ensures { λ r. ⌜ Lowered (now (opens .entry)) (now (owner .entry)) x may keep (now (owner .exit)) (now (slot .exit)) (r .word) (r .at) ⌝ }
+{
+    let all = words::minus(may, keep);
+    let mut f = free;
+    let mut s = words::wide(slot[x]);
+    while s != 0 {
+        let cand = all & words::low(s);
+        if cand == 0 {
+            return Found { at: s, word: f };
+        }
+        let r = shift(opens, owner, slot, f, x, cand, keep);
+        if r.at == 64 {
+            return Found { at: s, word: f };
+        }
+        f = r.word;
+        s = r.at;
+    }
+    Found { at: s, word: f }
+}
+
+// For each item from `from` on, the slots open to the items after it.
+pub fn later(opens: &[u64], from: usize) -> [u64; 64]
+    requires { ⌜ length (now opens) ≤ 64 ⌝ }
+    ensures { λ r. ⌜ Later (now (opens .entry)) from r ⌝ }
+{
+    let mut table = [0u64; 64];
+    let mut all: u64 = 0;
+    let mut i = opens.len();
+    while i > from {
+        i -= 1;
+        table[i] = all;
+        all = all | opens[i];
+    }
+    table
+}
+
+// Item x gets the least slot that leaves those of the items before it to them. It can't leave its slot if no item after it may use
+// that slot, and neither it nor one of these may use a free one.
+pub fn sink(
+    opens: &[u64],
+    owner: &mut [u8; 64],
+    slot: &mut [u8; 64],
+    free: u64,
+    x: usize,
+    after: u64,
+    keep: u64,
+) -> Found
+    requires { ⌜ Sinkable (now opens) (now owner) (now slot) free x after keep ⌝ }
+    ensures { λ r. ⌜ Lowered (now (opens .entry)) (now (owner .entry)) x (getD (now (opens .entry)) x 0) keep (now (owner .exit)) (now (slot .exit)) (r .word) (r .at) ⌝ }
+{
+    let s = words::wide(slot[x]);
+    let word = opens[x];
+    let loose = (after & words::single(s)) | ((after | word) & free);
+    if loose == 0 {
+        return Found { at: s, word: free };
+    }
+    lower(opens, owner, slot, free, x, word, keep)
+}
+
+// The items from `from` on get, one after the other, their least slots; `keep` are the slots of the items before.
+pub fn settle(
+    opens: &[u64],
+    owner: &mut [u8; 64],
+    slot: &mut [u8; 64],
+    free: u64,
+    from: usize,
+    keep: u64,
+)
+    requires { ⌜ Settleable (now opens) (now owner) (now slot) free from keep ⌝ }
+    ensures { λ _. ⌜ Settled (now (opens .entry)) (now (slot .entry)) from (now (slot .exit)) ⌝ }
+{
+    let table = later(opens, from);
+    let mut f = free;
+    let mut kept = keep;
+    let mut i = from;
+    while i < opens.len() {
+        let after = table[i];
+        let r = sink(opens, owner, slot, f, i, after, kept);
+        f = r.word;
+        kept = words::with(kept, r.at);
+        i += 1;
+    }
+}
+
+// The first plan; or 9 with the deficient set and the deficiency.
+pub fn first_plan(opens: &[u64]) -> PlanAnswer
+    requires { ⌜ length (now opens) ≤ 64 ⌝ }
+    ensures { λ r. ⌜ r ≡ firstOf (now (opens .entry)) (plans 64 (now (opens .entry))) ⌝ }
+{
+    let mut owner = [0u8; 64];
+    let mut slot = [0u8; 64];
+    let m = maximum::fill(
+        opens,
+        &mut owner,
+        &mut slot,
+        words::low(64),
+        words::low(opens.len()),
+    );
+    let exposed = m.exposed;
+    if exposed == 0 {
+        settle(opens, &mut owner, &mut slot, m.free, 0, 0);
+        return PlanAnswer {
+            code: 0,
+            shortage: 0,
+            items: 0,
+            callouts: 0,
+            plan: Plan { slots: slot },
+        };
+    }
+    PlanAnswer {
+        code: 9,
+        shortage: words::size(exposed) as u32,
+        items: maximum::deficient_set(&owner, exposed, m.dead),
+        callouts: 0,
+        plan: Plan { slots: [255u8; 64] },
+    }
+}
