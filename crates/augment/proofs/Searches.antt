@@ -16,12 +16,12 @@ use Rattle.augment.proofs.Spans.{span-into, span-from, span-lt, span-sa
 use Rattle.augment.proofs.Moves.{same-or, holder-matched, release-table, release-exposed, release-stay, release-new, take-table, take-own, take-free, take-slot, take-holds, take-stay, take-new}
 
 -- the lowest slot of two words' common slots
-record Common (a b h : ℕ) : Type 0 where
+pub record Common (a b h : ℕ) : Type 0 where
   pub below : h < 64
   pub left : bit a h ≡ 1
   pub right : bit b h ≡ 1
 
-common : (a b h : ℕ) → a < 2 ^ 64 → bitAnd a b ≢ 0 → h ≡ lowest (bitAnd a b) → Common a b h
+pub common : (a b h : ℕ) → a < 2 ^ 64 → bitAnd a b ≢ 0 → h ≡ lowest (bitAnd a b) → Common a b h
 common a b h l z e =
     let fits : bitAnd a b < 2 ^ 64 = omega (arith, and-le-l a b) in
     let one : bit (bitAnd a b) h ≡ 1 = ap (bit (bitAnd a b)) e ∙ bit-lowest (bitAnd a b) z fits in

@@ -69,6 +69,32 @@ module _ (w o p : List ℕ) (f x keep : ℕ) (P : Prefix w o p f x keep) where
       let r = keeps k (M .slot) (P .all k (M .slot) (M .held) (omega (arith, M .owns))) in
       ap (at p′) (sym (r .1 ∙ M .owns)) ∙ C .table .back k (M .slot) (r .0)
 
+  -- with x's new slot k they are the slots of the items before the next one
+  pub prefix-next : x < length w → (o′ p′ : List ℕ) (f′ k keep′ : ℕ) → Complete w o′ p′ f′ → at p′ x ≡ k
+      → ((l : ℕ) → l < 64 → bit keep l ≡ 1 → (bit f′ l ≡ 0) × (own o′ l ≡ own o l)) → keep′ ≡ with keep k → Prefix w o′ p′ f′ (x + 1) keep′
+  prefix-next g o′ p′ f′ k keep′ C slot keeps e =
+      let M′ = C .all x g in
+      let same = prefix-stays (omega arith) o′ p′ f′ C keeps in
+      rw e
+      (record {
+        complete = C;
+        held = λ l h b. same-or l k
+            (λ q. ap (bit f′) (q ∙ sym slot) ∙ M′ .held)
+            (λ d. keeps l h (sym (bit-with-other keep k l d) ∙ b) .0);
+        only = λ l h b. same-or l k
+            (λ q. omega (arith, ap (own o′) (q ∙ sym slot) ∙ M′ .owns))
+            (λ d. let c = sym (bit-with-other keep k l d) ∙ b in omega (arith, keeps l h c .1, P .only l h c));
+        all = λ l h b m. same-or (own o′ l) x
+            (λ q. ap (bit (with keep k)) (sym (C .table .back l h b) ∙ ap (at p′) q ∙ slot) ∙ bit-with keep k)
+            (λ d.
+            let y = own o′ l in
+            let u : y < x = omega arith in
+            let was : at p y ≡ l = sym (same y u) ∙ C .table .back l h b in
+            let M = P .complete .all y (omega arith) in
+            let c = P .all l h (ap (bit f) (sym was) ∙ M .held) (omega (arith, ap (own o) (sym was) ∙ M .owns)) in
+            omega (arith, c, bit-with-le keep k l, bit-lt (with keep k) l));
+      })
+
 -- ---- sink: where x can't leave its slot s
 
 module _ (w o p : List ℕ) (f x after keep s : ℕ) (S : Sinkable w o p f x after keep) (fits : f < 2 ^ 64) (es : s ≡ at p x) where
@@ -204,33 +230,10 @@ module _ (w p₀ : List ℕ) (from : ℕ) (o p : List ℕ) (f keep i : ℕ) (S :
     same′ : Same-to p′ p i
     same′ = prefix-stays w o p f i keep P (S .high) o′ p′ f′ (H .complete) (H .keeps)
 
-    -- one item more
-    prefix′ : (keep′ : ℕ) → keep′ ≡ with keep k → Prefix w o′ p′ f′ (i + 1) keep′
-    prefix′ keep′ e =
-        rw e
-        (record {
-          complete = H .complete;
-          held = λ l h b. same-or l k
-              (λ q. ap (bit f′) (q ∙ sym (H .slot)) ∙ M′ .held)
-              (λ d. H .keeps l h (sym (bit-with-other keep k l d) ∙ b) .0);
-          only = λ l h b. same-or l k
-              (λ q. omega (arith, ap (own o′) (q ∙ sym (H .slot)) ∙ M′ .owns))
-              (λ d. let c = sym (bit-with-other keep k l d) ∙ b in omega (arith, H .keeps l h c .1, P .only l h c));
-          all = λ l h b g. same-or (own o′ l) i
-              (λ q. ap (bit (with keep k)) (sym (H .complete .table .back l h b) ∙ ap (at p′) q ∙ H .slot) ∙ bit-with keep k)
-              (λ d.
-              let y = own o′ l in
-              let u : y < i = omega arith in
-              let was : at p y ≡ l = sym (same′ y u) ∙ H .complete .table .back l h b in
-              let M = P .complete .all y (omega (arith, S .high)) in
-              let c = P .all l h (ap (bit f) (sym was) ∙ M .held) (omega (arith, ap (own o) (sym was) ∙ M .owns)) in
-              omega (arith, c, bit-with-le keep k l, bit-lt (with keep k) l));
-        })
-
     pub settling-turn : (keep′ : ℕ) → keep′ ≡ with keep k → Settling w p₀ from o′ p′ f′ keep′ (i + 1)
     settling-turn keep′ e =
         record {
-          before = prefix′ keep′ e;
+          before = prefix-next w o p f i keep P more o′ p′ f′ k keep′ (H .complete) (H .slot) (H .keeps) e;
           low = omega (arith, S .low);
           high = omega arith;
           same = λ l h. same′ l (omega (arith, S .low)) ∙ S .same l h;

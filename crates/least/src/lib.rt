@@ -2,7 +2,8 @@
 // before left to them. The tables are those of `augment`.
 ghost use mathlib.Core.Path.{_≡_};
 ghost use mathlib.Core.Logic.{_≢_};
-ghost use Prim.Native.Nat.{ℕ, _≤_, _<_};
+ghost use Prim.Native.Nat.{ℕ, _^_, _≤_, _<_};
+ghost use lib.Bits.{bitAnd, bitOr};
 ghost use lib.ListN.{length, getD};
 ghost use Rattle.model.specs.Plans.{plans};
 ghost use Rattle.model.specs.Answers.{firstOf};
@@ -77,8 +78,16 @@ pub fn later(opens: &[u64], from: usize) -> [u64; 64]
     table
 }
 
-// Item x gets the least slot that leaves those of the items before it to them. It can't leave its slot if no item after it may use
-// that slot, and neither it nor one of these may use a free one.
+// Whether an item may leave its slot s at all, with the items before it left alone: only if an item after it may use s, or it or one
+// of these may use a free slot. `after` are the slots open to the items after it; 0 means no.
+pub fn loose(s: usize, word: u64, after: u64, free: u64) -> u64
+    requires { ⌜ s < 64 ⌝ }
+    ensures { λ r. ⌜ r ≡ bitOr (bitAnd after (2 ^ s)) (bitAnd (bitOr after word) free) ⌝ }
+{
+    (after & words::single(s)) | ((after | word) & free)
+}
+
+// Item x gets the least slot that leaves those of the items before it to them.
 pub fn sink(
     opens: &[u64],
     owner: &mut [u8; 64],
@@ -93,8 +102,7 @@ pub fn sink(
 {
     let s = words::wide(slot[x]);
     let word = opens[x];
-    let loose = (after & words::single(s)) | ((after | word) & free);
-    if loose == 0 {
+    if loose(s, word, after, free) == 0 {
         return Found { at: s, word: free };
     }
     lower(opens, owner, slot, free, x, word, keep)

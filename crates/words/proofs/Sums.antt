@@ -176,6 +176,15 @@ except-other f j i d = ap (λ b. cond b 0 (f i)) (ne-eqb i j d)
 pub sum-except : (f : ℕ → ℕ) (n j : ℕ) → j < n → sum f n ≡ f j + sum (except f j) n
 sum-except f n j l = sum-pick f (except f j) n j l (except-at f j) (except-other f j)
 
+-- no slot more, and one slot less
+pub sum-lt : (f g : ℕ → ℕ) (n j : ℕ) → j < n → ((i : ℕ) → i < n → f i ≤ g i) → f j < g j → sum f n < sum g n
+sum-lt f g n j l h less =
+    let others =
+    sum-le (except f j) (except g j) n (λ i m.
+    at-slot (λ i. f i ≤ g i → except f j i ≤ except g j i) j
+    (λ q. omega (arith, except-at f j)) (λ i d q. omega (arith, except-other f j i d, except-other g j i d)) i (h i m)) in
+    omega (arith, sum-except f n j l, sum-except g n j l)
+
 -- The counting law. p carries each index below n at which g is above 0 to one below m, no two to the same, and g there is at
 -- most f where p carries it.
 pub sum-injection : (n m : ℕ) (g f p : ℕ → ℕ) → ((i : ℕ) → i < n → g i ≢ 0 → p i < m) → ((i : ℕ) → i < n → g i ≢ 0 → g i ≤ f (p i))

@@ -28,34 +28,27 @@ vacate-at t = and 3 vacate-kinds.ps (is 3 vacate-kinds.ps μ-vacate t) vacate.Pr
 abbrev vacate-below : ℕ → In 3 vacate-kinds.ps
 vacate-below t = and 3 vacate-kinds.ps (falls 3 vacate-kinds.ps _<_ μ-vacate t) vacate.Pre
 
+-- what the calls ask and promise
+abbrev claims : ℕ → vacate-lts.Claims
+claims t = (
+  span-reads.Asked,
+  span-reads.Learnt,
+  lowest-reads.Asked,
+  lowest-reads.Learnt,
+  pass-reads.Asked,
+  pass-reads.Learnt,
+  minus-reads.Asked,
+  minus-reads.Learnt,
+  vacate-below t,
+  vacate.Post,
+)
+
 module _ (t : ℕ) where
   abbrev Start : Type 0
-  Start = vacate-lts.Start (
-    span-reads.Asked,
-    span-reads.Learnt,
-    lowest-reads.Asked,
-    lowest-reads.Learnt,
-    pass-reads.Asked,
-    pass-reads.Learnt,
-    minus-reads.Asked,
-    minus-reads.Learnt,
-    vacate-below t,
-    vacate.Post,
-  ) (vacate-at t) vacate.Post
+  Start = vacate-lts.Start (claims t) (vacate-at t) vacate.Post
 
   abbrev After-lowest : Type 0
-  After-lowest = vacate-lts.After-lowest (
-    span-reads.Asked,
-    span-reads.Learnt,
-    lowest-reads.Asked,
-    lowest-reads.Learnt,
-    pass-reads.Asked,
-    pass-reads.Learnt,
-    minus-reads.Asked,
-    minus-reads.Learnt,
-    vacate-below t,
-    vacate.Post,
-  ) (vacate-at t) vacate.Post
+  After-lowest = vacate-lts.After-lowest (claims t) (vacate-at t) vacate.Post
 
   abbrev start7 : After-lowest → Start
   start7 c = c .before .before .before .before .before .before .before
@@ -67,18 +60,7 @@ module _ (t : ℕ) where
       at-hand _ _ _ _ _ _ (start7 c .fits .seen .fits) (start7 c .pre .1) _ (rw p at (c .before .before .before .if1 .taken)) (rw p at (c .lowest .ensures))
 
   abbrev After-pass-arg4 : Type 0
-  After-pass-arg4 = vacate-lts.After-pass-arg4 (
-    span-reads.Asked,
-    span-reads.Learnt,
-    lowest-reads.Asked,
-    lowest-reads.Learnt,
-    pass-reads.Asked,
-    pass-reads.Learnt,
-    minus-reads.Asked,
-    minus-reads.Learnt,
-    vacate-below t,
-    vacate.Post,
-  ) (vacate-at t) vacate.Post
+  After-pass-arg4 = vacate-lts.After-pass-arg4 (claims t) (vacate-at t) vacate.Post
 
   abbrev start13 : After-pass-arg4 → Start
   start13 c = c .before .before .before .before .before .before .before .before .before .before .before .before .before
@@ -93,91 +75,25 @@ module _ (t : ℕ) where
       next-passable _ _ _ _ _ _ (s .fits .seen .fits) (s .pre .1) (rw p at (c .before .before .before .before .before .before .before .before .before .if1 .left)) _ _ _ _
       (rw (l, p) at (c .before .before .before .before .vacate .ensures .0 (c .before .before .if3 .left)))
 
-  span-requires : vacate-lts.Need-span-requires (
-    span-reads.Asked,
-    span-reads.Learnt,
-    lowest-reads.Asked,
-    lowest-reads.Learnt,
-    pass-reads.Asked,
-    pass-reads.Learnt,
-    minus-reads.Asked,
-    minus-reads.Learnt,
-    vacate-below t,
-    vacate.Post,
-  ) (vacate-at t) vacate.Post
+  span-requires : vacate-lts.Need-span-requires (claims t) (vacate-at t) vacate.Post
   span-requires c κs = vacate-owners _ _ _ _ _ _ (c .before .before .fits .seen .fits) (c .before .before .pre .1)
 
-  lowest-requires : vacate-lts.Need-lowest-requires (
-    span-reads.Asked,
-    span-reads.Learnt,
-    lowest-reads.Asked,
-    lowest-reads.Learnt,
-    pass-reads.Asked,
-    pass-reads.Learnt,
-    minus-reads.Asked,
-    minus-reads.Learnt,
-    vacate-below t,
-    vacate.Post,
-  ) (vacate-at t) vacate.Post
+  lowest-requires : vacate-lts.Need-lowest-requires (claims t) (vacate-at t) vacate.Post
   lowest-requires c κs = search needs
 
-  pass-requires : vacate-lts.Need-pass-requires (
-    span-reads.Asked,
-    span-reads.Learnt,
-    lowest-reads.Asked,
-    lowest-reads.Learnt,
-    pass-reads.Asked,
-    pass-reads.Learnt,
-    minus-reads.Asked,
-    minus-reads.Learnt,
-    vacate-below t,
-    vacate.Post,
-  ) (vacate-at t) vacate.Post
+  pass-requires : vacate-lts.Need-pass-requires (claims t) (vacate-at t) vacate.Post
   pass-requires c κs = hand c
 
-  returns : vacate-lts.Need-returns (
-    span-reads.Asked,
-    span-reads.Learnt,
-    lowest-reads.Asked,
-    lowest-reads.Learnt,
-    pass-reads.Asked,
-    pass-reads.Learnt,
-    minus-reads.Asked,
-    minus-reads.Learnt,
-    vacate-below t,
-    vacate.Post,
-  ) (vacate-at t) vacate.Post
+  returns : vacate-lts.Need-returns (claims t) (vacate-at t) vacate.Post
   returns c = (
     λ n. vacated-at-hand _ _ _ _ _ _ (start7 (c .before) .fits .seen .fits) (start7 (c .before) .pre .1) _ (hand (c .before)) _ _ _ _ (c .pass .ensures),
     λ e. absurd (omega (arith, c .pass .ensures .below)),
   )
 
-  minus-requires : vacate-lts.Need-minus-requires (
-    span-reads.Asked,
-    span-reads.Learnt,
-    lowest-reads.Asked,
-    lowest-reads.Learnt,
-    pass-reads.Asked,
-    pass-reads.Learnt,
-    minus-reads.Asked,
-    minus-reads.Learnt,
-    vacate-below t,
-    vacate.Post,
-  ) (vacate-at t) vacate.Post
+  minus-requires : vacate-lts.Need-minus-requires (claims t) (vacate-at t) vacate.Post
   minus-requires c κs = search needs
 
-  returns-2 : vacate-lts.Need-returns-2 (
-    span-reads.Asked,
-    span-reads.Learnt,
-    lowest-reads.Asked,
-    lowest-reads.Learnt,
-    pass-reads.Asked,
-    pass-reads.Learnt,
-    minus-reads.Asked,
-    minus-reads.Learnt,
-    vacate-below t,
-    vacate.Post,
-  ) (vacate-at t) vacate.Post
+  returns-2 : vacate-lts.Need-returns-2 (claims t) (vacate-at t) vacate.Post
   returns-2 c =
       let s = c .before .before .before .before .before .before in
       let p = c .before .before .before .span .ensures in (
@@ -188,18 +104,7 @@ module _ (t : ℕ) where
         ),
       )
 
-  vacate-requires : vacate-lts.Need-vacate-requires (
-    span-reads.Asked,
-    span-reads.Learnt,
-    lowest-reads.Asked,
-    lowest-reads.Learnt,
-    pass-reads.Asked,
-    pass-reads.Learnt,
-    minus-reads.Asked,
-    minus-reads.Learnt,
-    vacate-below t,
-    vacate.Post,
-  ) (vacate-at t) vacate.Post
+  vacate-requires : vacate-lts.Need-vacate-requires (claims t) (vacate-at t) vacate.Post
   vacate-requires c κs =
       let s = c .before .before .before .before .before .before .before .before in
       let p = c .before .before .before .before .before .span .ensures in
@@ -208,18 +113,7 @@ module _ (t : ℕ) where
       let some = rw (l, p) at (c .before .before .if2 .left) in
       rw (l, p) (omega (arith, s .pre .0, next-more _ _ _ _ _ _ (s .fits .seen .fits) (s .pre .1) none some), next-vacatable _ _ _ _ _ _ (s .fits .seen .fits) (s .pre .1) none)
 
-  returns-3 : vacate-lts.Need-returns-3 (
-    span-reads.Asked,
-    span-reads.Learnt,
-    lowest-reads.Asked,
-    lowest-reads.Learnt,
-    pass-reads.Asked,
-    pass-reads.Learnt,
-    minus-reads.Asked,
-    minus-reads.Learnt,
-    vacate-below t,
-    vacate.Post,
-  ) (vacate-at t) vacate.Post
+  returns-3 : vacate-lts.Need-returns-3 (claims t) (vacate-at t) vacate.Post
   returns-3 c =
       let s = c .before .before .before .before .before .before .before .before .before .before .before in
       let p = c .before .before .before .before .before .before .before .before .span .ensures in
@@ -231,32 +125,10 @@ module _ (t : ℕ) where
             (r .0, next-closed _ _ _ _ _ _ (s .fits .seen .fits) (s .pre .1) none _ (rw (l, p) at (r .1))),
       )
 
-  pass-requires-2 : vacate-lts.Need-pass-requires-2 (
-    span-reads.Asked,
-    span-reads.Learnt,
-    lowest-reads.Asked,
-    lowest-reads.Learnt,
-    pass-reads.Asked,
-    pass-reads.Learnt,
-    minus-reads.Asked,
-    minus-reads.Learnt,
-    vacate-below t,
-    vacate.Post,
-  ) (vacate-at t) vacate.Post
+  pass-requires-2 : vacate-lts.Need-pass-requires-2 (claims t) (vacate-at t) vacate.Post
   pass-requires-2 c κs = onward c
 
-  returns-4 : vacate-lts.Need-returns-4 (
-    span-reads.Asked,
-    span-reads.Learnt,
-    lowest-reads.Asked,
-    lowest-reads.Learnt,
-    pass-reads.Asked,
-    pass-reads.Learnt,
-    minus-reads.Asked,
-    minus-reads.Learnt,
-    vacate-below t,
-    vacate.Post,
-  ) (vacate-at t) vacate.Post
+  returns-4 : vacate-lts.Need-returns-4 (claims t) (vacate-at t) vacate.Post
   returns-4 c = (
     λ n.
         let d = c .before in
@@ -269,18 +141,7 @@ module _ (t : ℕ) where
   )
 
 pub +vacate-spec : {M : Type 1} → statement M
-+vacate-spec = close μ-vacate λ t. vacate-lts.spec (
-  span-reads.Asked,
-  span-reads.Learnt,
-  lowest-reads.Asked,
-  lowest-reads.Learnt,
-  pass-reads.Asked,
-  pass-reads.Learnt,
-  minus-reads.Asked,
-  minus-reads.Learnt,
-  vacate-below t,
-  vacate.Post,
-) (vacate-at t) vacate.Post
++vacate-spec = close μ-vacate λ t. vacate-lts.spec (claims t) (vacate-at t) vacate.Post
     (span-requires t)
     (lowest-requires t)
     (pass-requires t)

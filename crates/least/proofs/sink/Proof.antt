@@ -1,5 +1,5 @@
 -- `least::sink` meets its contract: an item that nothing can move has its least slot, any other is lowered. Assumes nothing.
-use mathlib.Core.Path.{refl}
+use mathlib.Core.Path.{refl, sym, _∙_}
 use Rattle.least.proofs.Settles.{sink-slot, sink-lowerable, sink-pinned}
 use borrow.Author.Needs.{needs}
 use Rattle.least.proofs.sink.Statement.{statement}
@@ -17,13 +17,13 @@ mul-word c = search needs
 shared-slice-read-word : tie.Need-shared-slice-read-word
 shared-slice-read-word c = search needs
 
-single-requires : tie.Need-single-requires
-single-requires c κs = sink-slot _ _ _ _ _ _ _ _ (c .before .before .before .before .pre) (search needs) (c .before .wide .ensures)
+loose-requires : tie.Need-loose-requires
+loose-requires c κs = sink-slot _ _ _ _ _ _ _ _ (c .before .before .before .before .pre) (search needs) (c .before .wide .ensures)
 
 returns : tie.Need-returns
 returns c =
     let s = c .before .before .before .before .before .before in
-    sink-pinned _ _ _ _ _ _ _ _ (s .pre) (search needs) (c .before .before .before .wide .ensures) (rw (c .before .single .ensures) at (c .if1 .taken))
+    sink-pinned _ _ _ _ _ _ _ _ (s .pre) (search needs) (c .before .before .before .wide .ensures) (sym (c .before .loose .ensures) ∙ c .if1 .taken)
 
 lower-requires : tie.Need-lower-requires
 lower-requires c κs = sink-lowerable _ _ _ _ _ _ _ _ (c .before .before .before .before .before .before .before .before .pre) (search needs) (c .before .before .before .before .before .wide .ensures) _ refl
@@ -39,7 +39,7 @@ sink-spec =
     wide-requires
     mul-word
     shared-slice-read-word
-    single-requires
+    loose-requires
     returns
     lower-requires
     returns-2)

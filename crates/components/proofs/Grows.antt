@@ -1,0 +1,168 @@
+-- The steps of `grow`, as plain mathematics: the start, a set that leads back into the path, a new slot and what comes back from it, the
+-- end. Assumes nothing.
+use mathlib.Core.Path.{_≡_, refl, sym, ap, _∙_, subst}
+use mathlib.Core.Logic.{_≢_}
+use mathlib.Core.List.{List}
+use Prim.Native.Nat.{ℕ, _+_, _-_, _^_, _≤_, _<_, min}
+use native.Mathlib.Nat.{le-trans}
+use native.Mathlib.Omega.{arith}
+use lib.Bits.{bitAnd, bitOr, and-le-l}
+use lib.ListN.{getD, replicate, length-replicate, getD-replicate}
+use Rattle.words.specs.Word.{bit, low, minus, lowest}
+use Rattle.words.specs.Sum.{sum}
+use Rattle.words.proofs.Bits.{bit-lt, bit-empty, bit-and, bit-or, bit-minus, bit-single, bit-single-other, bit-low, at-slot}
+use Rattle.words.proofs.Sums.{sum-lt}
+use Rattle.words.proofs.Sets.{minus-le, lowest-lt, bit-lowest}
+use Rattle.model.specs.Allowed.{allowedWord}
+use Rattle.augment.specs.Table.{own, at, cell}
+use Rattle.augment.specs.Search.{Within}
+use Rattle.augment.proofs.Moves.{same-or}
+use Rattle.augment.proofs.Searches.{common}
+use Rattle.components.specs.Component.{Saturating, Allowed, Growing, Grown}
+
+-- what falls: the number of slots that are neither finished nor on the path nor in the set
+abbrev pub unseen : ℕ → ℕ → ℕ → ℕ
+unseen rest path set = sum (λ k. bit rest k - (bit path k + bit set k)) 64
+
+pub grow-start : (w o : List ℕ) (f : ℕ) → Growing w o f (replicate 64 0) (low 64) 0 f (low 64)
+grow-start w o f =
+    record {
+      finished = record {
+        sized = length-replicate {A = ℕ} 64 0;
+        shut = λ k l h g b. absurd (omega (arith, bit-low 64 k h));
+        word = λ k h b. absurd (omega (arith, bit-low 64 k h));
+        zeros = λ x h g. getD-replicate 64 x 0 0 g;
+      };
+      inside = λ k h. omega (arith, bit-empty k, bit-low 64 k h, bit-lt f k);
+      free = λ k h. omega (arith, bit-empty k, bit-lt (low 64) k);
+      arcs = λ k l h g b. omega (arith, bit-low 64 l g, bit-lt f k, bit-lt (getD w (own o k) 0) l);
+      bound = λ z C k h b e l g. omega (arith, C k l h g e, bit-empty k, bit-lt (low 64) l);
+    }
+
+-- nothing can lead back into an empty path, so every slot is finished
+pub grow-end : {w o : List ℕ} {f : ℕ} → Saturating w o f → {a : List ℕ} {rest set out : ℕ} → Grown w o f (low 64) 0 f (low 64) a rest set out → Allowed w a
+grow-end {w} {o} {f} K {a} {rest} {set} {out} G =
+    let F = G .growing .finished in
+    record {
+      sized = F .sized;
+      word = λ x h.
+          let M = K .complete .all x h in
+          let s = at (K .slot) x in
+          subst (λ y. getD a y 0 ≡ allowedWord 64 w y) (M .owns) (F .word s (M .slot) (none s (M .slot)) (M .held));
+      zeros = F .zeros;
+    }
+  where
+    none : (k : ℕ) → k < 64 → bit rest k ≡ 0
+    none k h = same-or (bit out k) 0
+        (λ e. omega (arith, G .led k h, bit-low 64 k h))
+        (λ d. let r = G .back k (omega arith) in absurd (omega (arith, r .3, bit-empty (r .0))))
+
+-- the set leads to slot k: the search from there, and the search with what comes back
+pub record Step (w o : List ℕ) (f : ℕ) (a : List ℕ) (rest path set out k : ℕ) : Type 0 where
+  pub below : k < 64
+  pub held : bit f k ≡ 0
+  pub fewer : unseen rest (bitOr path set) (2 ^ k) < unseen rest path set
+  pub growing : Growing w o f a rest (bitOr path set) (2 ^ k) (getD w (own o k) 0)
+  pub again : {a₁ : List ℕ} {rest₁ set₁ out₁ : ℕ} → Grown w o f rest (bitOr path set) (2 ^ k) (getD w (own o k) 0) a₁ rest₁ set₁ out₁
+      → (unseen rest₁ path (bitOr set set₁) < unseen rest path set) × Growing w o f a₁ rest₁ path (bitOr set set₁) (bitOr out out₁)
+
+module _ {w o : List ℕ} {f : ℕ} {a : List ℕ} {rest path set out : ℕ} (P : Growing w o f a rest path set out) (hr : rest < 2 ^ 64) (hs : set < 2 ^ 64) where
+  abbrev next : ℕ
+  next = minus (bitAnd rest out) set
+
+  pub next-bit : (k : ℕ) → k < 64 → bit next k ≡ min (min (bit rest k) (bit out k)) (1 - bit set k)
+  next-bit k h = bit-minus (bitAnd rest out) set k hs h ∙ ap (λ x. min x (1 - bit set k)) (bit-and rest out k)
+
+  next-lt : next < 2 ^ 64
+  next-lt = omega (arith, minus-le (bitAnd rest out) set, and-le-l rest out)
+
+  pub grow-back : bitAnd next path ≢ 0 → Grown w o f rest path set out a rest set out
+  grow-back z =
+      let j = lowest (bitAnd next path) in
+      let c = common next path j next-lt z refl in
+      record {
+        growing = P;
+        less = λ k h. omega arith;
+        kept = λ k h. omega (arith, bit-lt rest k);
+        led = λ k h. omega (arith, bit-lt rest k);
+        back = λ k b. (j, c .below, omega (arith, c .left, next-bit j (c .below), bit-lt out j), c .right);
+      }
+
+  module _ (z : next ≢ 0) (none : bitAnd next path ≡ 0) {k : ℕ} (ek : k ≡ lowest next) where
+    below : k < 64
+    below = omega (arith, lowest-lt next z next-lt)
+
+    at-k : (bit rest k ≡ 1) × (bit out k ≡ 1) × (bit set k ≡ 0) × (bit path k ≡ 0)
+    at-k =
+        let b : bit next k ≡ 1 = ap (bit next) ek ∙ bit-lowest next z next-lt in
+        let m = next-bit k below in (
+          omega (arith, bit-lt rest k),
+          omega (arith, bit-lt out k),
+          omega arith,
+          omega (arith, bit-and next path k, ap (λ x. bit x k) none, bit-empty k),
+        )
+
+    held : bit f k ≡ 0
+    held = omega (arith, P .free k below, at-k)
+
+    or-path : (i : ℕ) → i < 64 → bit (bitOr path set) i ≡ bit path i + bit set i
+    or-path i h = omega (arith, bit-or path set i, P .inside i h, bit-lt rest i)
+
+    pub step : Step w o f a rest path set out k
+    step =
+        record {
+          below = below;
+          held = held;
+          fewer = sum-lt _ _ 64 k below (λ i h. omega (arith, or-path i h)) (omega (arith, or-path k below, bit-single k, at-k));
+          growing = record {
+            finished = P .finished;
+            inside = at-slot (λ i. i < 64 → bit (bitOr path set) i + bit (2 ^ k) i ≤ bit rest i) k
+                (λ h. omega (arith, or-path k h, bit-lt (2 ^ k) k, at-k))
+                (λ i d h. omega (arith, or-path i h, bit-single-other k i d, P .inside i h));
+            free = λ i h. omega (arith, or-path i h, P .free i h);
+            arcs = λ i l h g b. same-or i k
+                (λ e. omega (arith, ap (bit f) e, held, ap (λ x. cell w (own o x) l) e))
+                (λ d. absurd (omega (arith, bit-single-other k i d)));
+            bound = λ y C i h b e l g.
+                let here : bit y k ≡ 1 → cell w (own o k) l ≤ bit y l = λ q. omega (arith, C k l below g q) in
+                same-or i k
+                (λ q. here (ap (bit y) (sym q) ∙ e))
+                (λ d. here (omega (arith, P .bound y C i h (omega (arith, or-path i h, bit-single-other k i d)) e k below, at-k, bit-lt y k)));
+          };
+          again = λ {a₁} {rest₁} {set₁} {out₁} G.
+              let B = G .growing in
+              let or-set : (i : ℕ) → i < 64 → bit (bitOr set set₁) i ≡ bit set i + bit set₁ i =
+              λ i h. omega (arith, bit-or set set₁ i, B .inside i h, or-path i h, bit-lt rest₁ i) in (
+                sum-lt _ _ 64 k below (λ i h. omega (arith, G .less i h, or-set i h)) (omega (arith, G .kept k below, bit-single k, or-set k below, at-k)),
+                record {
+                  finished = B .finished;
+                  inside = λ i h. omega (arith, B .inside i h, or-path i h, or-set i h);
+                  free = λ i h. omega (arith, B .free i h, or-path i h, or-set i h);
+                  arcs = λ i l h g b. same-or (bit set i) 1
+                      (λ e. omega (arith, P .arcs i l h g e, bit-or out out₁ l))
+                      (λ d. omega (arith, B .arcs i l h g (omega (arith, or-set i h, bit-lt set i)), bit-or out out₁ l));
+                  bound = λ y C i h b e.
+                      let old : (j : ℕ) → j < 64 → 1 ≤ bit path j + bit set j → bit y j ≡ 1 → Within (bitOr out out₁) y = λ j g c q l m.
+                      omega (arith, bit-or out out₁ l, P .bound y C j g c q l m, B .bound y C j g (omega (arith, or-path j g)) q l m) in
+                      same-or (bit set₁ i) 0
+                      (λ d. old i h (omega (arith, or-set i h)) e)
+                      (λ d.
+                      let r = G .back i (omega arith) in
+                      let j = r .0 in
+                      old j (r .1) (omega (arith, r .3, or-path j (r .1))) (omega (arith, B .bound y C i h (omega arith) e j (r .1), r .2, bit-lt y j)));
+                },
+              );
+        }
+
+-- what the rest of the search brings is what the whole brings
+pub grown-through : {w o : List ℕ} {f rest path path₁ set set₀ set₁ out out₀ out₁ rest₁ rest₂ set₂ out₂ : ℕ} {a₁ a₂ : List ℕ}
+    → Grown w o f rest path₁ set₀ out₀ a₁ rest₁ set₁ out₁ → Grown w o f rest₁ path (bitOr set set₁) (bitOr out out₁) a₂ rest₂ set₂ out₂
+    → Grown w o f rest path set out a₂ rest₂ set₂ out₂
+grown-through {set = set} {set₁ = set₁} {out = out} {out₁ = out₁} G H =
+    record {
+      growing = H .growing;
+      less = λ i h. le-trans (H .less i h) (G .less i h);
+      kept = λ i h. omega (arith, H .kept i h, bit-or set set₁ i);
+      led = λ i h. omega (arith, H .led i h, bit-or out out₁ i);
+      back = H .back;
+    }

@@ -1,0 +1,3 @@
+pub mod Marks
+pub mod Grows
+pub mod Finishes

@@ -1,0 +1,110 @@
+-- The steps of `climb`: the item leaves its slot for one above, and goes down among these. Assumes nothing.
+use mathlib.Core.Path.{_≡_, refl, sym, ap, _∙_}
+use mathlib.Core.Logic.{_≢_}
+use mathlib.Core.List.{List}
+use Prim.Native.Nat.{ℕ, _+_, _-_, _^_, _≤_, _<_, min}
+use native.Mathlib.Nat.{lt-of-lt-of-le}
+use native.Mathlib.Omega.{arith}
+use lib.Bits.{bitAnd, bitOr}
+use lib.ListN.{length, getD}
+use lib.Pow.{pow-mono}
+use Rattle.words.specs.Word.{bit, minus, low}
+use Rattle.words.proofs.Bits.{bit-lt, bit-empty, bit-minus, bit-low, bit-low-high, low-lt}
+use Rattle.model.specs.Plans.{IsPlan}
+use Rattle.augment.specs.Table.{own, at, cell}
+use Rattle.augment.specs.Search.{Within, Same}
+use Rattle.augment.proofs.Bars.{Agrees, slot-lt}
+use Rattle.least.specs.Least.{Kept, Shiftable, Shifted, Stuck, Lowerable, Lowered, Sinkable}
+use Rattle.least.proofs.Shifts.{own-slot, not-kept}
+use Rattle.least.proofs.Settles.{prefix-kept, pinned}
+use Rattle.next.specs.Next.{above}
+
+-- ---- the open slots above an item's own
+
+module _ (w p : List ℕ) (x : ℕ) (h : at p x < 64) (k : ℕ) (l : k < 64) where
+  above-bit : bit (above w p x) k ≡ min (cell w x k) (1 - bit (low (at p x + 1)) k)
+  above-bit = bit-minus (getD w x 0) (low (at p x + 1)) k (lt-of-lt-of-le (low-lt (at p x + 1)) (pow-mono {i = at p x + 1} {j = 64} (omega arith))) l
+
+  pub above-high : at p x < k → bit (above w p x) k ≡ cell w x k
+  above-high g = omega (arith, above-bit, bit-low-high (at p x + 1) k (omega arith), bit-lt (getD w x 0) k)
+
+  pub above-low : k ≤ at p x → bit (above w p x) k ≡ 0
+  above-low g = omega (arith, above-bit, bit-low (at p x + 1) k (omega arith))
+
+-- ---- climb
+
+module _ (w o p : List ℕ) (f x after keep s : ℕ) (C : Sinkable w o p f x after keep) (es : s ≡ at p x) where
+  kept : Kept w o p f x keep
+  kept = prefix-kept w o p f x keep (C .before) (C .known)
+
+  own-lt : at p x < 64
+  own-lt = own-slot w o p f x keep kept .slot
+
+  pub climb-slot : s < 64
+  climb-slot = rw es own-lt
+
+  -- it can't leave its slot
+  pub climb-pinned : f < 2 ^ 64 → bitOr (bitAnd after (2 ^ s)) (bitAnd (bitOr after (getD w x 0)) f) ≡ 0 → Stuck w o x (above w p x) keep
+  climb-pinned fits z q Q A =
+      ap (bit (above w p x)) (pinned w o p f x after keep s C fits es z q Q A ∙ es) ∙ above-low w p x own-lt (at p x) own-lt (omega arith)
+
+  module _ (l may cand : ℕ) (fits : keep < 2 ^ 64) (el : l ≡ low (s + 1)) (em : may ≡ minus (getD w x 0) l) (ec : cand ≡ minus may keep) where
+    may-is : may ≡ above w p x
+    may-is = em ∙ ap (minus (getD w x 0)) (el ∙ ap (λ z. low (z + 1)) es)
+
+    in-cand : (k : ℕ) → k < 64 → bit cand k ≡ min (bit (above w p x) k) (1 - bit keep k)
+    in-cand k h = ap (λ v. bit v k) ec ∙ bit-minus may keep k fits h ∙ ap (λ v. min (bit v k) (1 - bit keep k)) may-is
+
+    cells : Within (above w p x) (getD w x 0)
+    cells k h = omega (arith, above-bit w p x own-lt k h)
+
+    -- a slot above that a plan gives x is one of cand
+    stuck : Stuck w o x cand keep → Stuck w o x (above w p x) keep
+    stuck T q Q A =
+        let h = slot-lt w o p f (C .before .complete .table) q Q x (C .known) in
+        omega (arith, T q Q A, in-cand (at q x) h, not-kept w o p f x keep kept q Q A, bit-lt (above w p x) (at q x))
+
+    pub climb-none : cand ≡ 0 → Stuck w o x (above w p x) keep
+    climb-none z = stuck (λ q Q A. ap (λ v. bit v (at q x)) z ∙ bit-empty (at q x))
+
+    pub climb-stuck : (o′ p′ : List ℕ) → Same o p o′ p′ × Stuck w o x cand keep → Same o p o′ p′ × Stuck w o x (above w p x) keep
+    climb-stuck o′ p′ r = (r .0, stuck (r .1))
+
+    pub climb-shiftable : Shiftable w o p f x cand keep
+    climb-shiftable =
+        record {
+          kept = kept;
+          cells = λ k h. omega (arith, in-cand k h, cells k h);
+          apart = λ k h. omega (arith, in-cand k h, bit-lt keep k, bit-lt (above w p x) k);
+        }
+
+    module _ (o₁ p₁ : List ℕ) (f₁ k : ℕ) (H : Shifted w o x cand keep o₁ p₁ f₁ k) where
+      pub climb-lowerable : Lowerable w o₁ p₁ f₁ x may keep
+      climb-lowerable =
+          let h : k < 64 = omega (arith, H .slot, H .complete .all x (C .known) .slot) in
+          rw may-is
+          (record {
+            kept = record {
+              complete = H .complete;
+              known = C .known;
+              held = λ l g b. H .keeps l g b .0;
+              others = λ l g b e. kept .others l g b (sym (H .keeps l g b .1) ∙ e);
+            };
+            cells = cells;
+            has = ap (bit (above w p x)) (H .slot) ∙ omega (arith, H .from, in-cand k h, bit-lt (above w p x) k);
+          })
+
+      module _ (o₂ p₂ : List ℕ) (f₂ j : ℕ) (L : Lowered w o₁ x may keep o₂ p₂ f₂ j) where
+        pub climb-below : j < 64
+        climb-below = omega (arith, L .slot, L .complete .all x (C .known) .slot)
+
+        pub climb-lowered : Lowered w o x (above w p x) keep o₂ p₂ f₂ j
+        climb-lowered =
+            let M = rw may-is at L in
+            record {
+              complete = M .complete;
+              slot = M .slot;
+              from = M .from;
+              keeps = λ l g b. (M .keeps l g b .0, M .keeps l g b .1 ∙ H .keeps l g b .1);
+              least = λ q Q A b. M .least q Q (λ l g c. ap (at q) (H .keeps l g c .1) ∙ A l g c) b;
+            }

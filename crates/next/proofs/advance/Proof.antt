@@ -1,0 +1,93 @@
+-- `next::advance` meets its contract: an item that can not climb joins the stuck ones, the first that can gives the next plan. Assumes nothing.
+use mathlib.Core.Path.{refl}
+use native.Mathlib.Omega.{arith}
+use Prim.Native.Nat.{_<_}
+use Rattle.next.proofs.Advances.{Advancing, advancing-start, advancing-slot, advancing-sinkable, advancing-stuck, advancing-below, advancing-settleable, advancing-found, advancing-end}
+use borrow.Author.Needs.{needs}
+use Rattle.next.proofs.advance.Statement.{statement}
+use Rattle.next.proofs.advance.Tie as tie
+
+abbrev Inv-loop : tie.InvT-loop
+Inv-loop opens owner₀ free plan slot₀ keep₀ after₀ i₀ owner slot keep after i = Advancing opens plan owner slot free keep after i
+
+abbrev μ-loop : tie.MeasureT-loop
+μ-loop opens owner₀ free plan slot₀ keep₀ after₀ i₀ owner slot keep after i = i
+
+low-requires : tie.Need-low-requires Inv-loop μ-loop
+low-requires c κs = omega arith
+
+minus-requires : tie.Need-minus-requires Inv-loop μ-loop
+minus-requires c κs = search needs
+
+loop-holds : tie.Need-loop-holds Inv-loop μ-loop
+loop-holds c = advancing-start _ _ _ _ _ _ (search needs) (c .before .before .before .pre) (c .before .low .ensures) (c .minus .ensures)
+
+sub-i : tie.Need-sub-i Inv-loop μ-loop
+sub-i c = omega arith
+
+array-read-wide : tie.Need-array-read-wide Inv-loop μ-loop
+array-read-wide c = omega (arith, c .before .loop .inv .within, c .before .loop .inv .before .complete .table .few)
+
+wide-requires : tie.Need-wide-requires Inv-loop μ-loop
+wide-requires c κs = search needs
+
+without-requires : tie.Need-without-requires Inv-loop μ-loop
+without-requires c κs = advancing-slot _ _ _ _ _ _ _ _ _ _ _ (c .before .before .loop .inv) (omega arith) (c .wide .ensures) refl
+
+climb-requires : tie.Need-climb-requires Inv-loop μ-loop
+climb-requires c κs = advancing-sinkable _ _ _ _ _ _ _ _ _ _ _ (c .before .before .before .before .before .loop .inv) (omega arith) (c .before .before .before .wide .ensures) (c .before .before .without .ensures)
+
+add-settle : tie.Need-add-settle Inv-loop μ-loop
+add-settle c = omega (arith, c .before .before .before .before .before .before .before .before .before .before .loop .inv .within, c .before .before .before .before .before .before .before .before .before .before .loop .inv .before .complete .table .few)
+
+with-requires : tie.Need-with-requires Inv-loop μ-loop
+with-requires c κs = advancing-below _ _ _ _ _ _ _ _ _ _ _ (c .before .before .before .before .before .before .before .before .before .before .loop .inv) (omega arith) (c .before .before .before .before .before .before .before .before .wide .ensures) (c .before .before .before .before .before .before .before .without .ensures) _ _ _ _ (c .before .before .before .before .climb .ensures .0 (c .before .before .if1 .taken))
+
+settle-requires : tie.Need-settle-requires Inv-loop μ-loop
+settle-requires c κs = advancing-settleable _ _ _ _ _ _ _ _ _ _ _ (c .before .before .before .before .before .before .before .before .before .before .before .loop .inv) (omega arith) (c .before .before .before .before .before .before .before .before .before .wide .ensures) (c .before .before .before .before .before .before .before .before .without .ensures) _ _ _ _ (c .before .before .before .before .before .climb .ensures .0 (c .before .before .before .if1 .taken)) _ (c .with .ensures)
+
+returns : tie.Need-returns Inv-loop μ-loop
+returns c = advancing-found _ _ _ _ _ _ _ _ _ _ _ (c .before .before .before .before .before .before .before .before .before .before .before .before .loop .inv) (omega arith) (c .before .before .before .before .before .before .before .before .before .before .wide .ensures) (c .before .before .before .before .before .before .before .before .before .without .ensures) _ _ _ _ (c .before .before .before .before .before .before .climb .ensures .0 (c .before .before .before .before .if1 .taken)) _ (c .settle .ensures)
+
+mul-after : tie.Need-mul-after Inv-loop μ-loop
+mul-after c = omega (arith, c .before .before .before .before .before .before .before .before .loop .inv .within, c .before .before .before .before .before .before .before .before .loop .inv .before .complete .table .few)
+
+shared-slice-read-after : tie.Need-shared-slice-read-after Inv-loop μ-loop
+shared-slice-read-after c = omega (arith, c .before .before .before .before .before .before .before .before .before .loop .inv .within)
+
+loop-less : tie.Need-loop-less Inv-loop μ-loop
+loop-less c = omega arith
+
+loop-again : tie.Need-loop-again Inv-loop μ-loop
+loop-again c = advancing-stuck _ _ _ _ _ _ _ _ _ _ _ (c .before .before .before .before .before .before .before .before .before .loop .inv) (omega arith) (c .before .before .before .before .before .before .before .wide .ensures) (c .before .before .before .before .before .before .without .ensures) _ _ (c .before .before .before .climb .ensures .1 (c .before .if1 .left))
+
+refusal-requires : tie.Need-refusal-requires Inv-loop μ-loop
+refusal-requires c κs = search needs
+
+returns-2 : tie.Need-returns-2 Inv-loop μ-loop
+returns-2 c = rw (c .refusal .ensures) (advancing-end _ _ _ _ _ _ _ _ (c .before .before .loop .inv) (omega arith))
+
+pub advance-spec : {M : Type 1} → statement M
+advance-spec =
+    tie.close
+    (tie.spec
+    Inv-loop
+    μ-loop
+    low-requires
+    minus-requires
+    loop-holds
+    sub-i
+    array-read-wide
+    wide-requires
+    without-requires
+    climb-requires
+    add-settle
+    with-requires
+    settle-requires
+    returns
+    mul-after
+    shared-slice-read-after
+    loop-less
+    loop-again
+    refusal-requires
+    returns-2)
