@@ -1,12 +1,12 @@
 -- A component is finished: the holders of its slots may have their open slots in it, and no others. Assumes nothing.
-use mathlib.Core.Path.{_≡_, sym, ap, _∙_}
+use mathlib.Core.Path.{_≡_, refl, sym, ap, _∙_}
 use mathlib.Core.Logic.{⊎-elim}
 use mathlib.Core.List.{List}
 use Prim.Native.Nat.{ℕ, _+_, _-_, _^_, _≤_, _<_, min}
 use native.Mathlib.Omega.{arith}
 use lib.Bits.{bitAnd, and-le-r}
-use lib.ListN.{length, getD}
-use lib.Pow.{pow-lt}
+use lib.ListN.{length, getD, replicate, getD-replicate}
+use lib.Pow.{pow-pos, pow-lt}
 use Rattle.words.specs.Word.{bit, with, minus}
 use Rattle.words.proofs.Bits.{bit-lt, bit-empty, bit-and, bit-not, bit-minus, bit-one-lt, bit-single, bit-single-other, bit-with, bit-with-other}
 use Rattle.words.proofs.Sets.{bit-with-le}
@@ -19,7 +19,7 @@ use Rattle.augment.proofs.Moves.{same-or, once}
 use Rattle.augment.proofs.Bars.{Shut, slot-lt, barred}
 use Rattle.augment.proofs.Exists.{assign-or}
 use Rattle.augment.proofs.Completes.{complete-plan, leave-table, leave-exposed, take-complete}
-use Rattle.components.specs.Component.{Closed, Saturating, Marked, Growing, Grown}
+use Rattle.components.specs.Component.{Closed, Saturating, Allowed, Marked, Growing, Grown}
 use Rattle.components.proofs.Grows.{next-bit}
 
 module _ {w o : List ℕ} {f : ℕ} {a : List ℕ} {rest path set out : ℕ} (K : Saturating w o f) (P : Growing w o f a rest path set out)
@@ -160,3 +160,13 @@ module _ {w o : List ℕ} {f : ℕ} {a : List ℕ} {rest path set out : ℕ} (K 
         led = λ k h. omega (arith, rb k h, only-own k h, bit-lt out k);
         back = λ k b. absurd (omega (arith, bit-empty k));
       }
+
+-- ---- no plan, no allowed cell
+
+pub none-allowed : (w : List ℕ) → length w ≤ 64 → ((x : ℕ) → x < length w → getD w x 0 < 2 ^ 64) → ((q : List ℕ) → IsPlan w q → ⊥) → Allowed w (replicate 64 0)
+none-allowed w few range none =
+    record {
+      sized = refl;
+      word = λ x h. getD-replicate 64 x 0 0 (omega arith) ∙ sym (allowed-by 64 w few range x 0 h (pow-pos 64) (λ j b. absurd (omega (arith, bit-empty j))) (λ q Q. absurd (none q Q)));
+      zeros = λ x h g. getD-replicate 64 x 0 0 g;
+    }

@@ -2,6 +2,7 @@
 // In the graph on the slots a held slot leads to the slots open to its holder, and a free slot to every slot, as if a spare item that
 // may use them all held it.
 ghost use mathlib.Core.Path.{_≡_};
+ghost use Prim.Native.Nat.{_≤_};
 ghost use lib.ListN.{length};
 ghost use Rattle.augment.specs.Table.{Owners};
 ghost use Rattle.components.specs.Component.{Saturating, Allowed, Growing, Grown, Marked};
@@ -92,4 +93,18 @@ pub fn allowed_words(opens: &[u64], owner: &[u8; 64], free: u64) -> [u64; 64]
     let all = words::low(64);
     grow(opens, owner, free, &mut allowed, all, 0, free, all);
     allowed
+}
+
+// The same from the open words alone; zeros where there is no plan.
+pub fn allowed_slots(opens: &[u64]) -> [u64; 64]
+    requires { ⌜ length (now opens) ≤ 64 ⌝ }
+    ensures { λ r. ⌜ Allowed (now (opens .entry)) r ⌝ }
+{
+    let mut owner = [0u8; 64];
+    let mut slot = [0u8; 64];
+    let m = maximum::fill(opens, &mut owner, &mut slot, words::low(64), words::low(opens.len()));
+    if m.exposed != 0 {
+        return [0u64; 64];
+    }
+    allowed_words(opens, &owner, m.free)
 }

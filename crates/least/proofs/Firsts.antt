@@ -7,58 +7,33 @@ use native.Mathlib.Omega.{arith}
 use native.Mathlib.Decide.{decLt}
 use lib.Bits.{bitOr}
 use lib.Count.{ones}
-use lib.ListN.{length, getD, replicate, getD-replicate}
-use Rattle.words.specs.Word.{bit, low}
-use Rattle.words.proofs.Bits.{bit-lt, bit-low, bit-empty, low-lt, bit-one-lt}
+use lib.ListN.{length, getD}
+use Rattle.words.proofs.Bits.{bit-empty}
 use Rattle.model.specs.declared.PlanAnswer.{PlanAnswer}
 use Rattle.model.specs.Plans.{plans, blank, IsPlan}
 use Rattle.model.specs.Deficiency.{deficiency}
 use Rattle.model.specs.Answers.{firstOf, given, deficient}
 use Rattle.model.proofs.Order.{Before, before-total, before-place}
 use Rattle.model.proofs.Laws.{first-of, first-of-none}
-use Rattle.augment.specs.Table.{at, Table, Complete}
-use Rattle.maximum.specs.Maximum.{Fillable, Filled, holders}
+use Rattle.augment.specs.Table.{at, Complete}
+use Rattle.maximum.specs.Maximum.{Filled, holders}
 use Rattle.maximum.proofs.Deficient.{deficiency-is, deficient-set-is, exposed-no-plan, none-exposed-complete}
 use Rattle.least.specs.Least.{Prefix, Settleable, Same-to, Settled}
 
--- ---- no table yet
+-- ---- a complete table
 
-module _ (w : List ℕ) (few : length w ≤ 64) (range : (x : ℕ) → x < length w → getD w x 0 < 2 ^ 64) where
-  empty-table : Table w (replicate 64 0) (replicate 64 0) (low 64)
-  empty-table =
-      record {
-        few = few;
-        range = range;
-        owners = refl;
-        slots = refl;
-        item = λ k h b. absurd (omega (arith, bit-low 64 k h));
-        open-cell = λ k h b. absurd (omega (arith, bit-low 64 k h));
-        back = λ k h b. absurd (omega (arith, bit-low 64 k h));
-        zeros = λ x h g. getD-replicate 64 x 0 0 g;
-      }
-
-  pub all-fillable : (todo : ℕ) → todo ≡ low (length w) → Fillable w (replicate 64 0) (replicate 64 0) (low 64) todo
-  all-fillable todo e =
-      rw e
-      (record {
-        table = empty-table;
-        items = low-lt (length w);
-        exposed = λ x b M. omega (arith, M .held, bit-low 64 (at (replicate 64 0) x) (M .slot));
-        matched = λ x h b. absurd (omega (arith, bit-low (length w) x h));
-      })
-
-  -- no item is before the first
-  pub whole-settleable : (o p : List ℕ) (f : ℕ) → Complete w o p f → Settleable w o p f 0 0
-  whole-settleable o p f C =
-      record {
-        before = record {
-          complete = C;
-          held = λ k h b. absurd (omega (arith, bit-empty k));
-          only = λ k h b. absurd (omega (arith, bit-empty k));
-          all = λ k h b l. absurd (omega arith);
-        };
-        within = omega arith;
-      }
+-- no item is before the first
+pub whole-settleable : (w o p : List ℕ) (f : ℕ) → Complete w o p f → Settleable w o p f 0 0
+whole-settleable w o p f C =
+    record {
+      before = record {
+        complete = C;
+        held = λ k h b. absurd (omega (arith, bit-empty k));
+        only = λ k h b. absurd (omega (arith, bit-empty k));
+        all = λ k h b l. absurd (omega arith);
+      };
+      within = omega arith;
+    }
 
 -- ---- a plan that gives the items before `from` the same slots is the settled one, or comes after it
 

@@ -5,13 +5,13 @@ use mathlib.Core.List.{List}
 use Prim.Native.Nat.{ℕ, _+_, _-_, _^_, _≤_, _<_, min}
 use native.Mathlib.Nat.{le-trans, lt-of-lt-of-le}
 use native.Mathlib.Omega.{arith}
-use lib.ListN.{length, getD}
+use lib.ListN.{length, getD, replicate, getD-replicate}
 use lib.Pow.{pow-mono, pow-pos}
-use Rattle.words.specs.Word.{bit, with, without, minus, lowest}
-use Rattle.words.proofs.Bits.{bit-lt, bit-empty, bit-one-lt, bit-minus, bit-with, bit-with-other, with-lt, bit-without, bit-without-other, without-le}
+use Rattle.words.specs.Word.{bit, with, without, minus, low, lowest}
+use Rattle.words.proofs.Bits.{bit-lt, bit-empty, bit-one-lt, bit-minus, bit-low, low-lt, bit-with, bit-with-other, with-lt, bit-without, bit-without-other, without-le}
 use Rattle.words.proofs.Sets.{bit-with-le, bit-without-le, minus-le}
 use Rattle.words.proofs.Walk.{Walk, Turn, walk, turn}
-use Rattle.augment.specs.Table.{own, Table, Matched, Exposed}
+use Rattle.augment.specs.Table.{own, at, Table, Matched, Exposed}
 use Rattle.augment.specs.Search.{Within, Assignable, Assigned, Barred, Same}
 use Rattle.augment.proofs.Moves.{same-or}
 use Rattle.maximum.specs.Maximum.{Fillable, Filled}
@@ -170,3 +170,29 @@ module _ (w : List ℕ) (todo : ℕ) (o p : List ℕ) (f e d left x rest cand : 
 
     pub filling-failed : (o′ p′ : List ℕ) (t e′ : ℕ) → t < 2 ^ 64 → e′ ≡ with e x → Same o p o′ p′ × Barred w o f cand d t → Filling w todo o′ p′ f e′ t rest
     filling-failed o′ p′ t e′ ht ee r = rw (r .0 .owner, r .0 .slot) (stays t e′ ht ee (r .1))
+
+-- ---- no table yet
+
+module _ (w : List ℕ) (few : length w ≤ 64) (range : (x : ℕ) → x < length w → getD w x 0 < 2 ^ 64) where
+  empty-table : Table w (replicate 64 0) (replicate 64 0) (low 64)
+  empty-table =
+      record {
+        few = few;
+        range = range;
+        owners = refl;
+        slots = refl;
+        item = λ k h b. absurd (omega (arith, bit-low 64 k h));
+        open-cell = λ k h b. absurd (omega (arith, bit-low 64 k h));
+        back = λ k h b. absurd (omega (arith, bit-low 64 k h));
+        zeros = λ x h g. getD-replicate 64 x 0 0 g;
+      }
+
+  pub all-fillable : (todo : ℕ) → todo ≡ low (length w) → Fillable w (replicate 64 0) (replicate 64 0) (low 64) todo
+  all-fillable todo e =
+      rw e
+      (record {
+        table = empty-table;
+        items = low-lt (length w);
+        exposed = λ x b M. omega (arith, M .held, bit-low 64 (at (replicate 64 0) x) (M .slot));
+        matched = λ x h b. absurd (omega (arith, bit-low (length w) x h));
+      })

@@ -7,6 +7,7 @@ use native.Mathlib.Nat.{suc-inj, mod-lt}
 use native.Mathlib.Omega.{arith}
 use borrow.Author.Tests.{eq-eqb, eqb-true, not-false}
 use lib.Dec.{eqb, lit<}
+use lib.Pow.{pow-add}
 use lib.ListN.{length, getD, take, drop, length-append, length-replicate, take-append-drop}
 use lib.Seq.{take-at, drop-at, take-add, drop-drop}
 use Rattle.model.specs.Lists.{same}
@@ -21,6 +22,11 @@ unfolding lowBytes fromBytes
 from-low zero x h = omega arith
 from-low (suc k) x h = let e = from-low k (x / 256) (omega arith) in omega arith
 
+pub low-length : (k x : ℕ) → length (lowBytes k x) ≡ k
+unfolding lowBytes
+low-length zero x = refl
+low-length (suc k) x = ap suc (low-length k (x / 256))
+
 pub low-from : (k : ℕ) (l : List ℕ) → Numbers 256 k l → lowBytes k (fromBytes l) ≡ l
 unfolding lowBytes fromBytes
 low-from zero [] s = refl
@@ -32,9 +38,18 @@ low-from (suc k) (x ∷ l) s =
     let q : (x + 256 * fromBytes l) / 256 ≡ fromBytes l = omega arith in
     rw (p, q) (ap (x ∷_) (low-from k l (numbers-drop 1 s (omega arith))))
 
+pub from-lt : (k : ℕ) (l : List ℕ) → Numbers 256 k l → fromBytes l < 2 ^ (8 * k)
+unfolding fromBytes
+from-lt zero [] s = lit< tt
+from-lt zero (x ∷ l) s = absurd (omega arith)
+from-lt (suc k) [] s = absurd (omega arith)
+from-lt (suc k) (x ∷ l) s =
+    let q : 8 * suc k ≡ 8 + 8 * k = omega arith in
+    rw (q, pow-add 2 8 (8 * k)) (omega (arith, s .small 0 (omega arith), from-lt k l (numbers-drop 1 s (omega arith))))
+
 -- ---- the items of a block
 
-items-length : (ws cs : List ℕ) → length cs ≡ length ws → length (itemBytes ws cs) ≡ 16 * length ws
+pub items-length : (ws cs : List ℕ) → length cs ≡ length ws → length (itemBytes ws cs) ≡ 16 * length ws
 unfolding itemBytes lowBytes
 items-length [] cs e = refl
 items-length (w ∷ ws) [] e = absurd (omega arith)
@@ -76,6 +91,12 @@ items-again (suc k) m l h s =
 
 -- ---- the block, of k items
 
+pub body-length : (n b : ℕ) (ws cs : List ℕ) → length cs ≡ length ws → length ws ≤ 31 → length (body n b ws cs) ≡ 510
+unfolding body
+body-length n b ws cs e h =
+    let front : length (header n b (length ws) ++ itemBytes ws cs) ≡ 14 + 16 * length ws = omega (arith, items-length ws cs e) in
+    length-append (header n b (length ws) ++ itemBytes ws cs) (unused (length ws)) ∙ ap₂ _+_ front (length-replicate (16 * (31 - length ws)) 0) ∙ omega arith
+
 pub record Written (n b k : ℕ) (ws cs block : List ℕ) : Type 0 where
   pub size : length block ≡ 512
   pub right : checkWrong block ≡ false
@@ -93,7 +114,7 @@ module _ (n b k : ℕ) (r : itemsOf n b ≡ k) where
       let check = checkOf bytes in
       let two = lowBytes 2 check in
       let front : length (head ++ items) ≡ 14 + 16 * length ws = omega (arith, items-length ws cs (w .count ∙ sym (v .count))) in
-      let long : length bytes ≡ 510 = length-append (head ++ items) rest ∙ ap₂ _+_ front (length-replicate (16 * (31 - length ws)) 0) ∙ omega arith in
+      let long : length bytes ≡ 510 = body-length n b ws cs (w .count ∙ sym (v .count)) (omega arith) in
       let first = take-at bytes two 510 long in
       let last = drop-at bytes two 510 long in
       record {

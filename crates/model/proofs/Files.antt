@@ -20,10 +20,19 @@ use Rattle.model.proofs.FileBlocks.{words-length, word-at, block-back, 
 
 -- ---- k blocks, with m items
 
-cut-length : (k : ℕ) (l : List ℕ) → length (cut k l) ≡ k
+pub cut-length : (k : ℕ) (l : List ℕ) → length (cut k l) ≡ k
 unfolding cut
 cut-length zero l = refl
 cut-length (suc k) l = ap suc (cut-length k (drop 512 l))
+
+pub cut-drop : (b k : ℕ) (l : List ℕ) → drop b (cut k l) ≡ cut (k - b) (drop (512 * b) l)
+unfolding cut
+cut-drop zero k l = let q : k - 0 ≡ k = omega arith in ap (λ j. cut j l) (sym q)
+cut-drop (suc b) zero l = let q : 0 - suc b ≡ 0 = omega arith in ap (λ j. cut j (drop (512 * suc b) l)) (sym q)
+cut-drop (suc b) (suc k) l =
+    let q : suc k - suc b ≡ k - b = omega arith in
+    let z : 512 * suc b ≡ 512 + 512 * b = omega arith in
+    rw (q, z, ← drop-drop) (cut-drop b k (drop 512 l))
 
 -- the words at place p
 module _ (p m : ℕ) where
@@ -38,7 +47,7 @@ module _ (p m : ℕ) where
   first-length : (l : List ℕ) → length (firstWords l) ≡ min 31 m
   first-length l = words-length (min 31 m) (drop p (take 512 l))
 
-all-length : (p m k : ℕ) (l : List ℕ) → m ≤ 31 * k → length (wordsIn p m (cut k l)) ≡ m
+pub all-length : (p m k : ℕ) (l : List ℕ) → m ≤ 31 * k → length (wordsIn p m (cut k l)) ≡ m
 unfolding wordsIn cut
 all-length p m zero l h = omega arith
 all-length p m (suc k) l h =
@@ -113,7 +122,7 @@ blocks-again (suc k) n b m l e h s right laid =
 -- ---- an accepted file
 
 -- the definition's equation, with its parts shut
-fileCode-is : (file : List ℕ)
+pub fileCode-is : (file : List ℕ)
     → fileCode file
     ≡ cond (not (eqb (length file) 512 || eqb (length file) 1024 || eqb (length file) 1536)) 12
     (cond (any checkWrong (blocksIn file)) 13
@@ -130,16 +139,25 @@ size-from s = go (eqb s 512) (eqb s 1024) (eqb s 1536) refl refl refl
     go false false true p q r h = omega (arith, eqb-true s 1536 r)
     go false false false p q r h = absurd (false≢true h)
 
-size-into : (k : ℕ) → 0 < k → k ≤ 3 → (eqb (512 * k) 512 || eqb (512 * k) 1024 || eqb (512 * k) 1536) ≡ true
+pub size-into : (k : ℕ) → 0 < k → k ≤ 3 → (eqb (512 * k) 512 || eqb (512 * k) 1024 || eqb (512 * k) 1536) ≡ true
 size-into zero h l = absurd (omega arith)
 size-into (suc zero) h l = refl
 size-into (suc (suc zero)) h l = refl
 size-into (suc (suc (suc zero))) h l = refl
 size-into (suc (suc (suc (suc k)))) h l = absurd (omega arith)
 
-blocks-in : (k : ℕ) (file : List ℕ) → length file ≡ 512 * k → blocksIn file ≡ cut k file
+pub blocks-in : (k : ℕ) (file : List ℕ) → length file ≡ 512 * k → blocksIn file ≡ cut k file
 unfolding blocksIn
 blocks-in k file e = let q : length file / 512 ≡ k = omega arith in ap (λ j. cut j file) q
+
+-- the word of item i, of any n that the file has room for; opensIn reads at place 14, calloutsIn at 22
+pub word-of : (p n i : ℕ) (file : List ℕ) → p ≤ 24 → n ≤ 31 * (length file / 512) → i < n
+    → getD (wordsIn p n (blocksIn file)) i 0 ≡ fromBytes (take 8 (drop (512 * (i / 31) + p + 16 * (i % 31)) file))
+unfolding blocksIn
+word-of p n i file fits room h =
+    let q : i ≡ 31 * (i / 31) + i % 31 = omega arith in
+    ap (λ j. getD (wordsIn p n (cut (length file / 512) file)) j 0) q
+    ∙ word-in p fits (i / 31) (i % 31) (length file / 512) n file (omega arith) (omega arith) (omega arith)
 
 module _ (file : List ℕ) where
   file-from : fileCode file ≡ 0 → Tables (itemsIn file) (itemsIn file) (opensIn file) (calloutsIn file) × Laid (itemsIn file) 0 (blocksFor (itemsIn file)) file
@@ -185,18 +203,16 @@ module _ (file : List ℕ) (ok : fileCode file ≡ 0) where
   pub callouts-length : length (calloutsIn file) ≡ itemsIn file
   callouts-length = file-from file ok .0 .callout-words
 
+  pub file-size : length file ≡ 512 * blocksFor (itemsIn file)
+  file-size = file-from file ok .1 .sized
+
   pub accepted-file : tableCode (itemsIn file) (itemsIn file) (opensIn file) (calloutsIn file) ≡ 0
   accepted-file = tables-into (itemsIn file) (itemsIn file) (opensIn file) (calloutsIn file) (file-from file ok .0)
 
-  -- opensIn reads at place 14, calloutsIn at 22
   pub words-at : (p i : ℕ) → p ≤ 24 → i < itemsIn file
       → getD (wordsIn p (itemsIn file) (blocksIn file)) i 0 ≡ fromBytes (take 8 (drop (512 * (i / 31) + p + 16 * (i % 31)) file))
   unfolding blocksFor
-  words-at p i fits h =
-      let n = itemsIn file in
-      let q : i ≡ 31 * (i / 31) + i % 31 = omega arith in
-      ap₂ (λ b j. getD (wordsIn p n b) j 0) (blocks-in (blocksFor n) file (file-from file ok .1 .sized)) q
-      ∙ word-in p fits (i / 31) (i % 31) (blocksFor n) n file (omega arith) (omega arith) (omega arith)
+  words-at p i fits h = word-of p (itemsIn file) i file fits (omega (arith, file-size)) h
 
 -- ---- read, then write
 

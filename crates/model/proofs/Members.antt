@@ -1,9 +1,10 @@
 -- Tests and members: of what passes a test, of a list with one number taken out, of lists put together. Assumes nothing.
 use mathlib.Core.Path.{_≡_, refl, sym, ap, ap₂, _∙_, subst}
 use mathlib.Core.Logic.{_≢_, _⊎_, inl, inr, ⊎-elim}
-use mathlib.Core.Bool.{Bool, true, false, not, cond, _&&_, _||_, and-eq-true-iff}
+use mathlib.Core.Bool.{Bool, true, false, not, cond, _&&_, _||_, and-eq-true-iff, and-assoc}
 use mathlib.Core.List.{List, [], _∷_, _++_, map, flatMap, List·Memᴰ, List·Memᴰ·head, List·Memᴰ·tail, List·Memᴰ·not-nil, List·Memᴰ·cases-cons, List·Memᴰ·append-cases, Memᴰ·append-left, Memᴰ·append-right}
 use Prim.Native.Nat.{ℕ, zero, suc, _+_, _<_, _≤_}
+use native.Mathlib.Nat.{suc-inj}
 use native.Mathlib.Omega.{arith}
 use borrow.Author.Tests.{eq-eqb, eqb-true}
 use lib.Dec.{T, eqb, eqb→eq, eqb-refl, T-not, not-T}
@@ -59,6 +60,13 @@ same-eq [] [] e = refl
 same-eq [] (y ∷ m) e = absurd (subst T (sym e) tt)
 same-eq (x ∷ l) [] e = absurd (subst T (sym e) tt)
 same-eq (x ∷ l) (y ∷ m) e = let r = and-eq-true-iff (eqb x y) (same l m) .0 e in ap₂ _∷_ (eqb-true x y (r .0)) (same-eq l m (r .1))
+
+pub same-append : (a b l m : List ℕ) → length a ≡ length l → same (a ++ b) (l ++ m) ≡ (same a l && same b m)
+unfolding same
+same-append [] b [] m e = refl
+same-append [] b (y ∷ l) m e = absurd (omega arith)
+same-append (x ∷ a) b [] m e = absurd (omega arith)
+same-append (x ∷ a) b (y ∷ l) m e = ap (eqb x y &&_) (same-append a b l m (suc-inj e)) ∙ sym (and-assoc (eqb x y) (same a l) (same b m))
 
 -- ---- what passes a test
 

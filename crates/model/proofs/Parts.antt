@@ -1,10 +1,10 @@
 -- Parts of lists, and lists of so many small numbers. Assumes nothing.
-use mathlib.Core.Path.{_≡_, refl, _∙_}
+use mathlib.Core.Path.{_≡_, refl, sym, ap, _∙_}
 use mathlib.Core.List.{List, [], _∷_, _++_, append-nil, append-assoc}
 use Prim.Native.Nat.{ℕ, zero, suc, _+_, _-_, _≤_, _<_, min}
 use native.Mathlib.Omega.{arith}
 use lib.ListN.{length, getD, take, drop, length-take, length-drop, take-append-drop, drop-of-length-le}
-use lib.Seq.{take-all, take-take, take-add, take-at, drop-at, getD-take, getD-drop}
+use lib.Seq.{take-nil, take-all, take-take, take-add, take-at, drop-at, getD-take, getD-drop}
 
 module _ {A : Type 0} where
   -- m elements from place j on, all among the first c
@@ -13,6 +13,13 @@ module _ {A : Type 0} where
   take-drop-take m (suc j) zero l h = absurd (omega arith)
   take-drop-take m (suc j) (suc c) [] h = refl
   take-drop-take m (suc j) (suc c) (x ∷ l) h = take-drop-take m j c l (omega arith)
+
+  -- what follows place j among the first c
+  pub drop-take : (j c : ℕ) (l : List A) → drop j (take c l) ≡ take (c - j) (drop j l)
+  drop-take zero c l = let q : c - 0 ≡ c = omega arith in ap (λ i. take i l) (sym q)
+  drop-take (suc j) zero l = let q : 0 - suc j ≡ 0 = omega arith in ap (λ i. take i (drop (suc j) l)) (sym q)
+  drop-take (suc j) (suc c) [] = sym (take-nil (suc c - suc j))
+  drop-take (suc j) (suc c) (x ∷ l) = let q : suc c - suc j ≡ c - j = omega arith in drop-take j c l ∙ ap (λ i. take i (drop j l)) (sym q)
 
   -- the first a, the next b, and the others of the first c
   pub three-parts : (a b c : ℕ) (l : List A) → a + b ≤ c → take a l ++ (take b (drop a l) ++ drop (a + b) (take c l)) ≡ take c l

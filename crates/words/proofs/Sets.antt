@@ -1,13 +1,16 @@
 -- Words as sets: sizes, subsets, the lowest slot. Assumes nothing.
 use mathlib.Core.Path.{_≡_, refl, sym, ap, ap₂, _∙_, subst}
 use mathlib.Core.Logic.{_≢_, _⊎_, inl, inr, ⊎-elim}
+use mathlib.Core.Bool.{Bool, true, false, not, _||_}
 use Prim.Native.Nat.{ℕ, zero, suc, _+_, _-_, _*_, _/_, _%_, _^_, _≤_, _<_, min, max}
 use native.Mathlib.Nat.{lt-of-lt-of-le, lt-of-le-of-lt, pow-suc, le-antisymm, zero-mul, one-mul, mul-assoc}
 use native.Mathlib.Decide.{ℕ-discrete, decLt, decLe}
 use native.Mathlib.Omega.{arith}
+use borrow.Author.Tests.{eq-eqb, ne-eqb, eqb-true, eqb-false, le-leb, lt-leb}
 use lib.Arith.{lt-one}
+use lib.Dec.{eqb, leb}
 use lib.Pow.{pow-pos, pow-mono}
-use lib.Bits.{bitAnd, bitOr, and-lt, or-lt, and-le-l, and-le-r}
+use lib.Bits.{bitAnd, bitOr, and-lt, or-lt, and-le-l, and-le-r, or-zero-l, or-add-and}
 use lib.Count.{ones, ones-step, ones-ones, trailingZeros, under, trailing-le}
 use Rattle.words.specs.Word.{bit, with, without, low, minus, lowest}
 use Rattle.words.specs.Sum.{sum}
@@ -142,6 +145,35 @@ bit-from a n j h l g = omega (arith, bit-minus a (low n) j (lt-of-lt-of-le (low-
 
 pub bit-not-from : (a n j : ℕ) → n ≤ 64 → j < n → bit (minus a (low n)) j ≡ 0
 bit-not-from a n j h g = omega (arith, bit-minus a (low n) j (lt-of-lt-of-le (low-lt n) (pow-mono h)) (omega arith), bit-low n j g)
+
+-- w has a slot from n on
+pub has-from : (n w : ℕ) → n ≤ 64 → w < 2 ^ 64 → not (eqb (minus w (low n)) 0) ≡ leb (2 ^ n) w
+has-from n w h l = go (decLt w (2 ^ n))
+  where
+    high : (j : ℕ) → minus w (low n) ≡ 0 → n ≤ j → j < 64 → bit w j ≡ 0
+    high j e a b = sym (bit-from w n j h b a) ∙ ap (λ x. bit x j) e ∙ bit-empty j
+
+    none : w < 2 ^ n → (j : ℕ) → j < 64 → Dec (j < n) → bit (minus w (low n)) j ≡ bit 0 j
+    none a j b (yes d) = bit-not-from w n j h d ∙ sym (bit-empty j)
+    none a j b (no d) = bit-from w n j h b (omega arith) ∙ bit-high n w j a (omega arith) ∙ sym (bit-empty j)
+
+    go : Dec (w < 2 ^ n) → not (eqb (minus w (low n)) 0) ≡ leb (2 ^ n) w
+    go (yes a) =
+        let e = ext 64 (minus w (low n)) 0 (lt-of-le-of-lt (minus-le w (low n)) l) (pow-pos 64) (λ j b. none a j b (decLt j n)) in
+        ap not (eq-eqb (minus w (low n)) 0 e) ∙ sym (lt-leb (2 ^ n) w a)
+    go (no a) =
+        let d : minus w (low n) ≢ 0 = λ e. a (high-empty 64 w n l (λ j. high j e)) in
+        ap not (ne-eqb (minus w (low n)) 0 d) ∙ sym (le-leb (2 ^ n) w (omega arith))
+
+-- a union has a slot if one of the two has
+pub or-some : (a b : ℕ) → not (eqb (bitOr a b) 0) ≡ (not (eqb a 0) || not (eqb b 0))
+or-some a b = go (eqb a 0) refl
+  where
+    go : (t : Bool) → eqb a 0 ≡ t → not (eqb (bitOr a b) 0) ≡ (not t || not (eqb b 0))
+    go true e = ap (λ x. not (eqb x 0)) (ap (λ x. bitOr x b) (eqb-true a 0 e) ∙ or-zero-l b)
+    go false e =
+        let d = eqb-false a 0 e in
+        ap not (ne-eqb (bitOr a b) 0 (λ z. d (omega (arith, or-add-and a b, and-le-r a b))))
 
 -- ---- the lowest slot
 

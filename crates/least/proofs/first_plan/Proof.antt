@@ -6,7 +6,8 @@ use native.Mathlib.Omega.{arith}
 use lib.Count.{ones-le}
 use lib.ListN.{length, getD}
 use Rattle.maximum.proofs.Deficient.{none-exposed-complete}
-use Rattle.least.proofs.Firsts.{all-fillable, whole-settleable, first-found, first-none}
+use Rattle.maximum.proofs.Filling.{all-fillable}
+use Rattle.least.proofs.Firsts.{whole-settleable, first-found, first-none}
 use borrow.Author.Needs.{needs}
 use Rattle.least.proofs.first_plan.Statement.{statement}
 use Rattle.least.proofs.first_plan.Tie as tie
@@ -25,8 +26,7 @@ fill-requires c κs = let k = c .before .before .before .before in rw (c .before
 
 settle-requires : tie.Need-settle-requires
 settle-requires c κs =
-    let k = c .before .before .before .before .before .before .before .before in
-    whole-settleable _ (k .before .pre) (range k) _ _ _ (none-exposed-complete _ _ _ _ _ _ (c .before .before .before .fill .ensures) (c .before .before .if1 .taken))
+    whole-settleable _ _ _ _ (none-exposed-complete _ _ _ _ _ _ (c .before .before .before .fill .ensures) (c .before .before .if1 .taken))
 
 returns : tie.Need-returns
 returns c =

@@ -1,0 +1,42 @@
+-- `components::allowed_slots` meets its contract: a maximum matching that serves every item is a complete table, any other shows that there is no plan. Assumes nothing.
+use Prim.Native.Nat.{ℕ, _<_, _^_}
+use native.Mathlib.Omega.{arith}
+use lib.ListN.{length, getD}
+use Rattle.maximum.proofs.Filling.{all-fillable}
+use Rattle.maximum.proofs.Deficient.{exposed-no-plan, none-exposed-complete}
+use Rattle.components.proofs.Finishes.{none-allowed}
+use borrow.Author.Needs.{needs}
+use Rattle.components.proofs.allowed_slots.Statement.{statement}
+use Rattle.components.proofs.allowed_slots.Tie as tie
+
+range : (c : tie.After-shared-slice-known) → (x : ℕ) → x < length (c .before .args .opens .now) → getD (c .before .args .opens .now) x 0 < 2 ^ 64
+range c x h = omega (arith, c .shared-slice-known .given x)
+
+low-requires : tie.Need-low-requires
+low-requires c κs = search needs
+
+low-requires-2 : tie.Need-low-requires-2
+low-requires-2 c κs = search needs
+
+fill-requires : tie.Need-fill-requires
+fill-requires c κs = rw (c .before .low .ensures) (all-fillable _ (c .before .before .before .before .before .pre) (range (c .before .before .before .before)) _ (c .low2 .ensures))
+
+returns : tie.Need-returns
+returns c = none-allowed _ (c .before .before .before .before .before .before .before .before .pre) (range (c .before .before .before .before .before .before .before)) (exposed-no-plan _ _ _ _ _ _ (c .before .before .fill .ensures) (c .if1 .taken))
+
+allowed-words-requires : tie.Need-allowed-words-requires
+allowed-words-requires c κs = record { slot = _; complete = none-exposed-complete _ _ _ _ _ _ (c .before .before .before .fill .ensures) (c .before .if1 .left) }
+
+returns-2 : tie.Need-returns-2
+returns-2 c = search needs
+
+pub allowed-slots-spec : {M : Type 1} → statement M
+allowed-slots-spec =
+    tie.close
+    (tie.spec
+    low-requires
+    low-requires-2
+    fill-requires
+    returns
+    allowed-words-requires
+    returns-2)
