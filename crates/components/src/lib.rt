@@ -102,7 +102,13 @@ pub fn allowed_slots(opens: &[u64]) -> [u64; 64]
 {
     let mut owner = [0u8; 64];
     let mut slot = [0u8; 64];
-    let m = maximum::fill(opens, &mut owner, &mut slot, words::low(64), words::low(opens.len()));
+    let m = maximum::fill(
+        opens,
+        &mut owner,
+        &mut slot,
+        words::low(64),
+        words::low(opens.len()),
+    );
     if m.exposed != 0 {
         return [0u64; 64];
     }
