@@ -1,0 +1,56 @@
+-- `writing::clear` meets its contract: the bytes before i are 0. Assumes nothing.
+use native.Mathlib.Omega.{arith}
+use mathlib.Core.Path.{_≡_, refl, _∙_}
+use mathlib.Core.List.{_++_, append-nil}
+use Prim.Native.Nat.{_≤_, _-_}
+use borrow.Author.Fill.{fill-more}
+use lib.ListN.{length, drop, replicate, length-set}
+use lib.Seq.{drop-length}
+use Rattle.rota_file.proofs.writing.clear.Statement.{statement}
+use Rattle.rota_file.proofs.writing.clear.Tie as tie
+
+abbrev Inv-loop : tie.InvT-loop
+Inv-loop part₀ i₀ part i = (i ≤ length part₀) × (part ≡ replicate i 0 ++ drop i part₀) × (length part ≡ length part₀)
+
+abbrev μ-loop : tie.MeasureT-loop
+μ-loop part₀ i₀ part i = length part₀ - i
+
+loop-holds : tie.Need-loop-holds Inv-loop μ-loop
+loop-holds c = (omega arith, refl, refl)
+
+slice-write-part : tie.Need-slice-write-part Inv-loop μ-loop
+slice-write-part c = omega arith
+
+add-i : tie.Need-add-i Inv-loop μ-loop
+add-i c = omega arith
+
+loop-less : tie.Need-loop-less Inv-loop μ-loop
+loop-less c = omega arith
+
+loop-again : tie.Need-loop-again Inv-loop μ-loop
+loop-again c =
+    let head = c .before in
+    (omega arith, rw (head .loop .inv .1) (fill-more (head .loop .i) 0 (head .before .args .part .now) (omega arith)), simp length-set (head .loop .inv .2))
+
+same-length : tie.Need-same-length Inv-loop μ-loop
+same-length c = omega arith
+
+returns : tie.Need-returns Inv-loop μ-loop
+returns c =
+    let head = c .before in
+    let done : head .loop .i ≡ length (head .before .args .part .now) = omega arith in
+    head .loop .inv .1 ∙ rw (done, drop-length, append-nil)
+
+pub clear-spec : {M : Type 1} → statement M
+clear-spec =
+    tie.close
+    (tie.spec
+    Inv-loop
+    μ-loop
+    loop-holds
+    slice-write-part
+    add-i
+    loop-less
+    loop-again
+    same-length
+    returns)

@@ -1,0 +1,58 @@
+// Numbers and their bytes, low byte first.
+ghost use mathlib.Core.Path.{_≡_};
+ghost use Prim.Native.Nat.{_≤_};
+ghost use lib.ListN.{length};
+ghost use Rattle.model.specs.File.{fromBytes, lowBytes, checkOf};
+
+pub(crate) fn wide(x: u8) -> u64
+    ensures { λ r. ⌜ r ≡ x ⌝ }
+{
+    x as u64
+}
+
+pub(crate) fn size(x: u8) -> usize
+    ensures { λ r. ⌜ r ≡ x ⌝ }
+{
+    x as usize
+}
+
+// The number of up to 8 bytes.
+pub(crate) fn from_bytes(bytes: &[u8]) -> u64
+    requires { ⌜ length (now bytes) ≤ 8 ⌝ }
+    ensures { λ r. ⌜ r ≡ fromBytes (now (bytes .entry)) ⌝ }
+{
+    let mut x: u64 = 0;
+    let mut i = bytes.len();
+    while 0 < i {
+        i -= 1;
+        x = 256 * x + wide(bytes[i]);
+    }
+    x
+}
+
+// Writes the low bytes of a number over all of a part.
+pub(crate) fn put_low(x: u64, out: &mut [u8])
+    ensures { λ _. ⌜ now (out .exit) ≡ lowBytes (length (now (out .entry))) x ⌝ }
+{
+    let mut rest = x;
+    let mut i = 0;
+    while i < out.len() {
+        out[i] = (rest % 256) as u8;
+        rest = rest / 256;
+        i += 1;
+    }
+}
+
+// The check of some bytes: their sum modulo 65,536.
+pub(crate) fn check_of(bytes: &[u8]) -> u64
+    requires { ⌜ length (now bytes) ≤ 510 ⌝ }
+    ensures { λ r. ⌜ r ≡ checkOf (now (bytes .entry)) ⌝ }
+{
+    let mut sum: u64 = 0;
+    let mut i = 0;
+    while i < bytes.len() {
+        sum += wide(bytes[i]);
+        i += 1;
+    }
+    sum % 65536
+}
