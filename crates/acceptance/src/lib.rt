@@ -1,10 +1,13 @@
-// Refusals 1 to 4: whether two tables are accepted as a rota.
+// Refusals 1 to 4: whether two tables are accepted as a rota; and a refused call's answer.
 ghost use mathlib.Core.Path.{_≡_};
 ghost use mathlib.Core.Bool.{cond};
 ghost use Prim.Native.Nat.{_≤_};
 ghost use lib.Dec.{eqb};
 ghost use lib.ListN.{length};
 ghost use Rattle.model.specs.Rota.{cellCode, tableCode};
+ghost use Rattle.model.specs.Answers.{refused};
+use model::Plan;
+use model::PlanAnswer;
 
 // The first refusal: 3 for open bits beyond the slots, then 4 for callout bits on closed cells.
 fn first_code(beyond: u64, closed: u64) -> u32
@@ -56,4 +59,17 @@ pub fn table_code(n: usize, opens: &[u64], callouts: &[u64]) -> u32
         return 2;
     }
     cell_code(n, opens, callouts)
+}
+
+// A refused call's answer: the blank plan and zeros.
+pub fn refusal(code: u32) -> PlanAnswer
+    ensures { λ r. ⌜ r ≡ refused code ⌝ }
+{
+    PlanAnswer {
+        code,
+        shortage: 0,
+        items: 0,
+        callouts: 0,
+        plan: Plan { slots: [255u8; 64] },
+    }
 }

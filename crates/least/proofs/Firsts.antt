@@ -1,23 +1,20 @@
 -- What `settle` leaves is the least plan, and `first_plan` gives the model's first one. Assumes nothing.
-use mathlib.Core.Path.{_≡_, refl, sym, ap, _∙_, subst}
+use mathlib.Core.Path.{_≡_, refl, sym, _∙_}
 use mathlib.Core.Logic.{_≢_, _⊎_, inl, inr, ⊎-elim}
 use mathlib.Core.List.{List}
 use Prim.Native.Nat.{ℕ, _^_, _≤_, _<_}
 use native.Mathlib.Omega.{arith}
 use native.Mathlib.Decide.{decLt}
-use lib.Bits.{bitOr}
-use lib.Count.{ones}
 use lib.ListN.{length, getD}
 use Rattle.words.proofs.Bits.{bit-empty}
 use Rattle.model.specs.declared.PlanAnswer.{PlanAnswer}
-use Rattle.model.specs.Plans.{plans, blank, IsPlan}
-use Rattle.model.specs.Deficiency.{deficiency}
-use Rattle.model.specs.Answers.{firstOf, given, deficient}
+use Rattle.model.specs.Plans.{plans, IsPlan}
+use Rattle.model.specs.Answers.{firstOf, given}
 use Rattle.model.proofs.Order.{Before, before-total, before-place}
 use Rattle.model.proofs.Laws.{first-of, first-of-none}
 use Rattle.augment.specs.Table.{at, Complete}
-use Rattle.maximum.specs.Maximum.{Filled, holders}
-use Rattle.maximum.proofs.Deficient.{deficiency-is, deficient-set-is, exposed-no-plan, none-exposed-complete}
+use Rattle.maximum.specs.Maximum.{Filled, deficientBy}
+use Rattle.maximum.proofs.Deficient.{deficient-answer, exposed-no-plan}
 use Rattle.least.specs.Least.{Prefix, Settleable, Same-to, Settled}
 
 -- ---- a complete table
@@ -64,10 +61,5 @@ module _ (w : List ℕ) (few : length w ≤ 64) (range : (x : ℕ) → x < lengt
   unfolding given
   first-found p r S = sym (first-of 64 w few range r (S .plan) (λ q Q. settled-before w p 0 r S q Q (λ l h. absurd (omega arith))))
 
-  pub first-none : (o p : List ℕ) (f e d size set : ℕ) → Filled w o p f e d → e ≢ 0 → size ≡ ones e → set ≡ bitOr e (holders o d)
-      → _≡_ {A = PlanAnswer} (record { code = 9; shortage = size; items = set; callouts = 0; plan = record { slots = blank } }) (firstOf w (plans 64 w))
-  unfolding deficient
-  first-none o p f e d size set F some es et =
-      ap (λ s. record { code = 9; shortage = s; items = set; callouts = 0; plan = record { slots = blank } }) (es ∙ sym (deficiency-is w o p f e d F))
-      ∙ ap (λ t. record { code = 9; shortage = deficiency w; items = t; callouts = 0; plan = record { slots = blank } }) (et ∙ sym (deficient-set-is w o p f e d F))
-      ∙ sym (first-of-none 64 w few range (exposed-no-plan w o p f e d F some))
+  pub first-none : (o p : List ℕ) (f e d : ℕ) → Filled w o p f e d → e ≢ 0 → deficientBy o e d ≡ firstOf w (plans 64 w)
+  first-none o p f e d F some = deficient-answer w o p f e d F ∙ sym (first-of-none 64 w few range (exposed-no-plan w o p f e d F some))

@@ -158,11 +158,5 @@ pub fn first_plan(opens: &[u64]) -> PlanAnswer
             plan: Plan { slots: slot },
         };
     }
-    PlanAnswer {
-        code: 9,
-        shortage: words::size(exposed) as u32,
-        items: maximum::deficient_set(&owner, exposed, m.dead),
-        callouts: 0,
-        plan: Plan { slots: [255u8; 64] },
-    }
+    maximum::no_plan(&owner, exposed, m.dead)
 }

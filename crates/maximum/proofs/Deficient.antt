@@ -1,6 +1,6 @@
 -- A maximum matching gives the deficiency: the exposed items and the holders of the dead slots are the one smallest set of
 -- greatest shortage, and it is short by the number of exposed items (Hall, König). Assumes nothing.
-use mathlib.Core.Path.{_≡_, refl, sym, ap, _∙_, subst}
+use mathlib.Core.Path.{_≡_, refl, sym, ap, ap₂, _∙_, subst}
 use mathlib.Core.Logic.{_≢_}
 use mathlib.Core.List.{List}
 use Prim.Native.Nat.{ℕ, _+_, _-_, _^_, _≤_, _<_, max}
@@ -14,14 +14,15 @@ use Rattle.words.specs.Word.{bit, without, minus, with, lowest}
 use Rattle.words.proofs.Bits.{ext, bit-lt, bit-empty, bit-and, bit-or, bit-minus, bit-one-lt, with-lt}
 use Rattle.words.proofs.Sets.{ones-or-and, ones-minus, ones-none, ones-subset, subset-eq, empty, minus-le, bit-with-max}
 use Rattle.words.proofs.Walk.{Walk, Turn, walk, turn}
-use Rattle.model.specs.Plans.{IsPlan}
+use Rattle.model.specs.Plans.{blank, IsPlan}
+use Rattle.model.specs.Answers as answers
 use Rattle.model.specs.Deficiency.{neighbours, shortBy, deficiency, deficientSet}
 use Rattle.model.proofs.Sets.{image, image-into, image-from, image-lt, ones-image, image-pick}
 use Rattle.model.proofs.Deficiency.{neighbours-into, neighbours-from, neighbours-lt, plan-none-short, deficiency-by, deficient-set-by}
 use Rattle.augment.specs.Table.{own, at, cell, Table, Matched, Exposed, Complete}
 use Rattle.augment.specs.Search.{Within}
-use Rattle.augment.proofs.Moves.{same-or, exposed-other}
-use Rattle.maximum.specs.Maximum.{Filled, holders}
+use Rattle.augment.proofs.Moves.{same-or, once, exposed-other}
+use Rattle.maximum.specs.Maximum.{Filled, holders, deficientBy}
 
 module _ (w o p : List ℕ) (f e d : ℕ) (F : Filled w o p f e d) where
   abbrev n : ℕ
@@ -35,6 +36,10 @@ module _ (w o p : List ℕ) (f e d : ℕ) (F : Filled w o p f e d) where
 
   holds : (k : ℕ) → k < 64 → bit d k ≡ 1 → own o k < n
   holds k h b = F .table .item k h (F .held k h b)
+
+  -- what `deficient_set` asks
+  pub dead-owners : (length o ≡ 64) × ((k : ℕ) → k < 64 → bit d k ≡ 1 → own o k < 64)
+  dead-owners = (F .table .owners, λ k h b. omega (arith, holds k h b, F .table .few))
 
   holders-lt : y < 2 ^ n
   unfolding holders
@@ -60,7 +65,7 @@ module _ (w o p : List ℕ) (f e d : ℕ) (F : Filled w o p f e d) where
       omega (arith, bit-lt e x))
       (λ m. omega (arith, bit-lt e x, bit-lt y x))
 
-  deficient-ones : ones deficient ≡ ones e + ones d
+  pub deficient-ones : ones deficient ≡ ones e + ones d
   deficient-ones =
       let none : bitAnd e y ≡ 0 = empty n (bitAnd e y) (and-lt n e y (F .items) holders-lt) (λ x l. omega (arith, bit-and e y x, apart x)) in
       omega (arith, ones-or-and n e y (F .items) holders-lt, ap ones none, ones-le 0 0 (pow-pos 0), holders-ones)
@@ -71,17 +76,33 @@ module _ (w o p : List ℕ) (f e d : ℕ) (F : Filled w o p f e d) where
   near-lt : (set : ℕ) → neighbours w set < 2 ^ 64
   near-lt = neighbours-lt w 64 range
 
-  -- all slots open to it are dead
+  -- all slots open to its items are dead
+  pub deficient-shut : (x : ℕ) → x < n → bit deficient x ≡ 1 → Within (getD w x 0) d
+  deficient-shut x h b = same-or (bit e x) 1
+      (λ c. F .all x h c)
+      (λ m k g.
+      let q = holders-from x (omega (arith, bit-or e y x, bit-lt e x)) in
+      omega (arith, ap (λ x. cell w x k) (q .3), F .shut (q .0) (q .1) (q .2) k g))
+
   near-deficient : Within (neighbours w deficient) d
   near-deficient k h = same-or (bit (neighbours w deficient) k) 1
-      (λ b.
-      let r = neighbours-from w deficient k b in
-      same-or (bit e (r .0)) 1
-      (λ c. omega (arith, r .3, F .all (r .0) (r .1) c k h))
-      (λ m.
-      let q = holders-from (r .0) (omega (arith, r .2, bit-or e y (r .0), bit-lt e (r .0))) in
-      omega (arith, r .3, ap (λ x. cell w x k) (q .3), F .shut (q .0) (q .1) (q .2) k h)))
+      (λ b. let r = neighbours-from w deficient k b in omega (arith, r .3, deficient-shut (r .0) (r .1) (r .2) k h))
       (λ m. omega (arith, bit-lt (neighbours w deficient) k))
+
+  -- of the matched items it has the holders of the dead slots
+  pub deficient-holder : (k : ℕ) → k < 64 → bit f k ≡ 0 → bit deficient (own o k) ≡ bit d k
+  unfolding holders
+  deficient-holder k h b =
+      let x = own o k in
+      let none : bit e x ≢ 1 = λ c. exposed-other w o p f (F .table) x (F .exposed x c) k h b refl in
+      same-or (bit d k) 1
+      (λ c. omega (arith, bit-or e y x, bit-lt e x, image-into (own o) 64 d k h c))
+      (λ m. same-or (bit y x) 1
+      (λ c.
+      let r = holders-from x c in
+      let q = once w o p f (F .table) (r .0) k (r .1) h (F .held (r .0) (r .1) (r .2)) b (r .3) in
+      absurd (omega (arith, r .2, ap (bit d) q)))
+      (λ c. omega (arith, bit-or e y x, bit-lt e x, bit-lt y x, bit-lt d k)))
 
   -- ---- any other set
 
@@ -195,6 +216,11 @@ module _ (w o p : List ℕ) (f e d : ℕ) (F : Filled w o p f e d) where
       (λ set h s x l. same-or e 0
       (λ z. omega (arith, ap (λ v. bit v x) (none-dead z), bit-empty x))
       (λ m. within set h m (s ∙ short-is) x))
+
+  pub deficient-answer : deficientBy o e d ≡ answers.deficient w
+  unfolding deficientBy answers.deficient
+  deficient-answer =
+      ap₂ (λ s t. record { code = 9; shortage = s; items = t; callouts = 0; plan = record { slots = blank } }) (sym deficiency-is) (sym deficient-set-is)
 
   -- with an item exposed there is no plan, with none the table is complete (Hall)
   pub exposed-no-plan : e ≢ 0 → (q : List ℕ) → IsPlan w q → ⊥

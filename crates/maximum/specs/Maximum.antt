@@ -3,8 +3,12 @@
 use mathlib.Core.Path.{_≡_}
 use mathlib.Core.List.{List}
 use Prim.Native.Nat.{ℕ, _^_, _≤_, _<_}
+use lib.Bits.{bitOr}
+use lib.Count.{ones}
 use lib.ListN.{length, getD}
 use Rattle.words.specs.Word.{bit}
+use Rattle.model.specs.declared.PlanAnswer.{PlanAnswer}
+use Rattle.model.specs.Plans.{blank}
 use Rattle.model.proofs.Sets.{image}
 use Rattle.augment.specs.Table.{own, Table, Matched, Exposed}
 use Rattle.augment.specs.Search.{Within}
@@ -34,3 +38,7 @@ pub record Filled (w o p : List ℕ) (f e d : ℕ) : Type 0 where
 unfoldable pub holders : List ℕ → ℕ → ℕ
 unfolding image
 holders o set = image (own o) 64 set
+
+-- the answer 9, from a maximum matching
+unfoldable pub deficientBy : List ℕ → ℕ → ℕ → PlanAnswer
+deficientBy o e d = record { code = 9; shortage = ones e; items = bitOr e (holders o d); callouts = 0; plan = record { slots = blank } }

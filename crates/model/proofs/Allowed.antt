@@ -15,7 +15,7 @@ use Rattle.model.specs.Plans.{plans, IsPlan}
 use Rattle.model.specs.Allowed.{allowedWord, allowedWords}
 use Rattle.model.proofs.Order.{rising-same}
 use Rattle.model.proofs.Sets.{singles-into, singles-from, singles-lt}
-use Rattle.model.proofs.Plans.{plans-rise, plan-from, plan-into}
+use Rattle.model.proofs.Plans.{plans-rise, plan-from, plan-into, plan-across}
 
 module _ (m : ℕ) (opens : List ℕ) where
   pub length-allowed : length (allowedWords m opens) ≡ length opens
@@ -62,21 +62,15 @@ module _ (m : ℕ) (opens : List ℕ) where
 
 -- ---- two rotas
 
--- a plan of one rota is one of the other, where each of its cells is allowed there
+-- a plan of one rota is one of the other, where the same cells are allowed
 crossing : (m : ℕ) (opens opens′ : List ℕ) → length opens ≤ 64 → length opens′ ≡ length opens
     → ((i : ℕ) → i < length opens → getD opens i 0 < 2 ^ m) → ((i : ℕ) → i < length opens′ → getD opens′ i 0 < 2 ^ m)
     → allowedWords m opens ≡ allowedWords m opens′ → (p : List ℕ) → IsPlan opens p → IsPlan opens′ p
 crossing m opens opens′ few e range range′ w p P =
-    record {
-      sized = P .sized;
-      open-cell = λ i l.
-          let h : i < length opens = omega arith in
-          let same = sym (allowed-at m opens i h) ∙ ap (λ x. getD x i 0) w ∙ allowed-at m opens′ i l in
-          let r = allowed-from m opens′ (omega arith) range′ i (getD p i 0) (ap (λ x. bit x (getD p i 0)) (sym same) ∙ allowed-into m opens few range p P i) in
-          subst (λ s. bit (getD opens′ i 0) s ≡ 1) (r .2) (r .1 .open-cell i l);
-      once = λ i k l g. P .once i k (omega arith) (omega arith);
-      zeros = λ i l. P .zeros i (omega arith);
-    }
+    plan-across e P (λ i l.
+    let same = sym (allowed-at m opens i (omega arith)) ∙ ap (λ x. getD x i 0) w ∙ allowed-at m opens′ i l in
+    let r = allowed-from m opens′ (omega arith) range′ i (getD p i 0) (ap (λ x. bit x (getD p i 0)) (sym same) ∙ allowed-into m opens few range p P i) in
+    subst (λ s. bit (getD opens′ i 0) s ≡ 1) (r .2) (r .1 .open-cell i l))
 
 pub same-listing : (m : ℕ) (opens opens′ : List ℕ) → length opens ≤ 64 → length opens′ ≡ length opens
     → ((i : ℕ) → i < length opens → getD opens i 0 < 2 ^ m) → ((i : ℕ) → i < length opens′ → getD opens′ i 0 < 2 ^ m)

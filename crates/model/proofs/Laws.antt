@@ -8,6 +8,9 @@ use Prim.Native.Nat.{ℕ, zero, suc, _^_, _<_, _≤_}
 use native.Mathlib.Omega.{arith}
 use lib.Dec.{T, eqb, leb, eqb→eq, eqb-refl}
 use lib.ListN.{length, getD}
+use Rattle.words.specs.Word.{bit}
+use Rattle.words.proofs.Bits.{bit-lt}
+use Rattle.words.proofs.Sums.{sum-const, sum-le}
 use Rattle.model.specs.declared.Plan.{Plan}
 use Rattle.model.specs.Lists.{keep, any, same, before, least}
 use Rattle.model.specs.Rota.{tableCode, Accepted}
@@ -24,6 +27,16 @@ use Rattle.model.proofs.Plans.{plans-rise, plan-from, plan-into}
 -- no other plan stands before p
 abbrev pub IsLeast : List ℕ → List ℕ → Type 0
 IsLeast opens p = (q : List ℕ) → IsPlan opens q → (q ≡ p) ⊎ Before p q
+
+-- a plan has a cell for each item
+pub callouts-le : (callouts p : List ℕ) → calloutsOf callouts p ≤ length callouts
+unfolding calloutsOf
+callouts-le callouts p =
+    omega (
+      arith,
+      sum-le (λ i. bit (getD callouts i 0) (getD p i 0)) (λ i. 1) (length callouts) (λ i h. omega (arith, bit-lt (getD callouts i 0) (getD p i 0))),
+      sum-const 1 (length callouts),
+    )
 
 empty-list : {A : Type 0} (l : List A) → ((x : A) → List·Memᴰ x l → ⊥) → l ≡ []
 empty-list [] f = refl
@@ -94,21 +107,32 @@ module _ (m : ℕ) (opens : List ℕ) (few : length opens ≤ 64) (range : (i : 
 
   -- ---- fewest callouts
 
+  pub fewest-of-none : (callouts : List ℕ) (cap : ℕ) → ((p : List ℕ) → IsPlan opens p → ⊥)
+      → fewestOf opens cap (fewest m opens callouts) (fewestPlans m opens callouts) ≡ deficient opens
+  unfolding fewestOf fewestPlans keep
+  fewest-of-none callouts cap f =
+      ap (λ l. fewestOf opens cap (fewest m opens callouts) (keep (λ p. eqb (calloutsOf callouts p) (fewest m opens callouts)) l)) (no-plans f)
+
   module _ (callouts p : List ℕ) (P : IsPlan opens p) (fewer : (q : List ℕ) → IsPlan opens q → calloutsOf callouts p ≤ calloutsOf callouts q) where
     pub fewest-is : fewest m opens callouts ≡ calloutsOf callouts p
     unfolding fewest
     fewest-is = least-is (calloutsOf callouts) (plans m opens) p (into p P) (λ q h. fewer q (from q h))
 
-    pub fewest-of : ((q : List ℕ) → IsPlan opens q → calloutsOf callouts q ≡ calloutsOf callouts p → (q ≡ p) ⊎ Before p q)
-        → (rest : List (List ℕ)) × (fewestPlans m opens callouts ≡ p ∷ rest)
-    unfolding fewestPlans
-    fewest-of f =
-        let test : List ℕ → Bool = λ q. eqb (calloutsOf callouts q) (fewest m opens callouts) in
-        least-is-head (fewestPlans m opens callouts) p (chain-keep Before test (plans m opens) (plans-rise m opens))
-        (keep-into test (plans m opens) (into p P) (subst (λ k. T (eqb (calloutsOf callouts p) k)) (sym fewest-is) (eqb-refl (calloutsOf callouts p))))
-        (λ q h.
-        let r = keep-from test (plans m opens) h in
-        f q (from q (r .0)) (eqb→eq (calloutsOf callouts q) (fewest m opens callouts) (r .1) ∙ fewest-is))
+    module _ (f : (q : List ℕ) → IsPlan opens q → calloutsOf callouts q ≡ calloutsOf callouts p → (q ≡ p) ⊎ Before p q) where
+      fewest-head : (rest : List (List ℕ)) × (fewestPlans m opens callouts ≡ p ∷ rest)
+      unfolding fewestPlans
+      fewest-head =
+          let test : List ℕ → Bool = λ q. eqb (calloutsOf callouts q) (fewest m opens callouts) in
+          least-is-head (fewestPlans m opens callouts) p (chain-keep Before test (plans m opens) (plans-rise m opens))
+          (keep-into test (plans m opens) (into p P) (subst (λ k. T (eqb (calloutsOf callouts p) k)) (sym fewest-is) (eqb-refl (calloutsOf callouts p))))
+          (λ q h.
+          let r = keep-from test (plans m opens) h in
+          f q (from q (r .0)) (eqb→eq (calloutsOf callouts q) (fewest m opens callouts) (r .1) ∙ fewest-is))
+
+      pub fewest-of : (cap : ℕ) → fewestOf opens cap (fewest m opens callouts) (fewestPlans m opens callouts)
+          ≡ cond (leb (calloutsOf callouts p) cap) (given p (calloutsOf callouts p)) (overCap (calloutsOf callouts p))
+      unfolding fewestOf
+      fewest-of cap = ap₂ (fewestOf opens cap) fewest-is (fewest-head .1)
 
 -- ---- the answers, of accepted tables
 
@@ -149,15 +173,9 @@ module _ (n m : ℕ) (opens callouts : List ℕ) (ok : tableCode n m opens callo
   fewest-unless cap = ap (λ c. unless c (fewestOf opens cap (fewest m opens callouts) (fewestPlans m opens callouts))) ok
 
   pub fewest-none : (cap : ℕ) → ((p : List ℕ) → IsPlan opens p → ⊥) → fewestAnswer n m opens callouts cap ≡ deficient opens
-  unfolding fewestOf fewestPlans keep
-  fewest-none cap f =
-      fewest-unless cap
-      ∙ ap (λ l. fewestOf opens cap (fewest m opens callouts) (keep (λ p. eqb (calloutsOf callouts p) (fewest m opens callouts)) l)) (no-plans m opens few range f)
+  fewest-none cap f = fewest-unless cap ∙ fewest-of-none m opens few range callouts cap f
 
   pub fewest-answer : (cap : ℕ) (p : List ℕ) → IsPlan opens p → ((q : List ℕ) → IsPlan opens q → calloutsOf callouts p ≤ calloutsOf callouts q)
       → ((q : List ℕ) → IsPlan opens q → calloutsOf callouts q ≡ calloutsOf callouts p → (q ≡ p) ⊎ Before p q)
       → fewestAnswer n m opens callouts cap ≡ cond (leb (calloutsOf callouts p) cap) (given p (calloutsOf callouts p)) (overCap (calloutsOf callouts p))
-  unfolding fewestOf
-  fewest-answer cap p P fewer f =
-      fewest-unless cap
-      ∙ ap₂ (fewestOf opens cap) (fewest-is m opens few range callouts p P fewer) (fewest-of m opens few range callouts p P fewer f .1)
+  fewest-answer cap p P fewer f = fewest-unless cap ∙ fewest-of m opens few range callouts p P fewer f cap

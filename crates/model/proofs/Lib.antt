@@ -8,6 +8,8 @@ pub mod Permanent
 pub mod Deficiency
 pub mod Allowed
 pub mod Laws
+pub mod Refusals
+pub mod Slots
 pub mod Listing
 pub mod Ways
 pub mod Subsets

@@ -8,7 +8,7 @@ use native.Mathlib.Nat.{suc-inj}
 use native.Mathlib.Omega.{arith}
 use borrow.Author.Tests.{eq-eqb, eqb-true}
 use lib.Dec.{T, eqb, eqb→eq, eqb-refl, T-not, not-T}
-use lib.ListN.{length, getD}
+use lib.ListN.{length, getD, take}
 use Rattle.model.specs.Lists.{keep, any, remove, same}
 
 -- ---- tests
@@ -127,6 +127,21 @@ module _ {A : Type 0} (f : A → Bool) where
   any-none d [] e i h = absurd (omega arith)
   any-none d (x ∷ l) e zero h = neither (f x) (any f l) e .0
   any-none d (x ∷ l) e (suc i) h = any-none d l (neither (f x) (any f l) e .1) i (omega arith)
+
+  -- one member more
+  pub any-more : (d : A) (l : List A) (i : ℕ) → i < length l → any f (take (suc i) l) ≡ (any f (take i l) || f (getD l i d))
+  unfolding any
+  any-more d [] i h = absurd (omega arith)
+  any-more d (x ∷ l) zero h = go (f x)
+    where
+      go : (b : Bool) → (b || false) ≡ b
+      go true = refl
+      go false = refl
+  any-more d (x ∷ l) (suc i) h = go (f x) (any-more d l i (omega arith))
+    where
+      go : (b : Bool) → any f (take (suc i) l) ≡ (any f (take i l) || f (getD l i d)) → (b || any f (take (suc i) l)) ≡ ((b || any f (take i l)) || f (getD l i d))
+      go true e = refl
+      go false e = e
 
 -- ---- one number taken out
 

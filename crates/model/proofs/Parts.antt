@@ -1,5 +1,5 @@
 -- Parts of lists, and lists of so many small numbers. Assumes nothing.
-use mathlib.Core.Path.{_≡_, refl, sym, ap, _∙_}
+use mathlib.Core.Path.{_≡_, refl, sym, ap, ap₂, _∙_}
 use mathlib.Core.List.{List, [], _∷_, _++_, append-nil, append-assoc}
 use Prim.Native.Nat.{ℕ, zero, suc, _+_, _-_, _≤_, _<_, min}
 use native.Mathlib.Omega.{arith}
@@ -13,6 +13,10 @@ module _ {A : Type 0} where
   take-drop-take m (suc j) zero l h = absurd (omega arith)
   take-drop-take m (suc j) (suc c) [] h = refl
   take-drop-take m (suc j) (suc c) (x ∷ l) h = take-drop-take m j c l (omega arith)
+
+  -- a copy over a whole part
+  pub copied : (n : ℕ) (s d : List A) → length s ≡ n → length d ≤ n → take n s ++ drop n d ≡ s
+  copied n s d e h = ap₂ _++_ (take-all n s (omega arith)) (drop-of-length-le d {i = n} h) ∙ append-nil s
 
   -- what follows place j among the first c
   pub drop-take : (j c : ℕ) (l : List A) → drop j (take c l) ≡ take (c - j) (drop j l)

@@ -178,3 +178,14 @@ module _ (m : ℕ) (opens : List ℕ) where
     -- a list is among the plans exactly if it is a complete plan
     pub plans-are : (p : List ℕ) → List·Memᴰ p (plans m opens) ↔ IsPlan opens p
     plans-are p = (plan-from p, plan-into p)
+
+-- a plan of one rota is one of another, where each of its cells is open there
+pub plan-across : {opens opens′ p : List ℕ} → length opens′ ≡ length opens → IsPlan opens p
+    → ((i : ℕ) → i < length opens′ → bit (getD opens′ i 0) (getD p i 0) ≡ 1) → IsPlan opens′ p
+plan-across e P cells =
+    record {
+      sized = P .sized;
+      open-cell = cells;
+      once = λ i k l g. P .once i k (omega arith) (omega arith);
+      zeros = λ i l. P .zeros i (omega arith);
+    }

@@ -137,7 +137,7 @@ pub fn advance(opens: &[u64], plan: [u8; 64], owner: &mut [u8; 64], free: u64) -
         }
         after = after | opens[i];
     }
-    refusal(10)
+    acceptance::refusal(10)
 }
 
 // The plan after the given one; 8 where that is none of this rota, 10 where none follows.
@@ -149,20 +149,7 @@ pub fn next_plan(opens: &[u64], given: Plan) -> PlanAnswer
     let mut owner = [0u8; 64];
     let a = adopt(opens, plan, &mut owner);
     if !a.ok {
-        return refusal(8);
+        return acceptance::refusal(8);
     }
     advance(opens, plan, &mut owner, a.free)
-}
-
-// A refused call's answer: the blank plan and zeros.
-pub fn refusal(code: u32) -> PlanAnswer
-    ensures { λ r. ⌜ r ≡ refused code ⌝ }
-{
-    PlanAnswer {
-        code,
-        shortage: 0,
-        items: 0,
-        callouts: 0,
-        plan: Plan { slots: [255u8; 64] },
-    }
 }

@@ -13,6 +13,7 @@ use Rattle.model.specs.declared.WriteAnswer.{WriteAnswer}
 use Rattle.model.specs.Rota.{cellCode, tableCode}
 use Rattle.model.specs.File.{blocksFor, blocksIn, itemsIn, wordsIn, opensIn, calloutsIn, laidOut, fileCode, fileBytes}
 use Rattle.model.specs.Answers.{orElse, unlessRefused, written, roomCode, readCode, readAnswer, readOpens, readCallouts, writeCode, writeAnswer, writeFile}
+use Rattle.model.proofs.Refusals.{or-first}
 use Rattle.model.proofs.Files.{file-length}
 use Rattle.rota_file.proofs.Found.{blocks-count}
 use Rattle.rota_file.proofs.Values.{values-length}
@@ -47,11 +48,6 @@ module _ (file : List ℕ) (n p : ℕ) (r : Room file n) (ws : List ℕ) (e : ws
   front-fits = omega (arith, ap length e, length-append (wordsIn p n (blocksIn file)) (drop n (replicate 64 0)), values-length file p n (r .enough))
 
 -- ---- reading
-
-or-first : (c later : ℕ) → c ≢ 0 → orElse c later ≡ c
-unfolding orElse
-or-first zero later d = absurd (d refl)
-or-first (suc c) later d = refl
 
 module _ (file opens callouts : List ℕ) where
   abbrev cells : ℕ

@@ -1,28 +1,18 @@
 -- Both round trips, over the equations of the contracts of `write_file` and `read_file`. Assumes nothing.
 use mathlib.Core.Path.{_≡_, refl, sym, ap, ap₂, _∙_}
 use mathlib.Core.List.{List, _++_}
-use Prim.Native.Nat.{ℕ, zero, suc, _*_, _^_, _≤_, _<_}
+use Prim.Native.Nat.{ℕ, _*_, _^_, _≤_, _<_}
 use native.Mathlib.Omega.{arith}
-use borrow.Author.Tests.{le-ltb}
 use lib.ListN.{length, getD, take, drop}
 use lib.Seq.{take-at}
 use Rattle.model.specs.declared.ReadAnswer.{ReadAnswer}
 use Rattle.model.specs.declared.WriteAnswer.{WriteAnswer}
 use Rattle.model.specs.Rota.{tableCode}
 use Rattle.model.specs.File.{blocksFor, itemsIn, opensIn, calloutsIn, fileCode, fileBytes}
-use Rattle.model.specs.Answers.{orElse, unlessRefused, written, roomCode, readCode, readAnswer, readOpens, readCallouts, writeCode, writeAnswer, writeFile}
+use Rattle.model.specs.Answers.{orElse, unlessRefused, written, readCode, readAnswer, readOpens, readCallouts, writeCode, writeAnswer, writeFile}
 use Rattle.model.proofs.Accepted.{tables-from}
+use Rattle.model.proofs.Refusals.{neither-refuses, room-enough}
 use Rattle.model.proofs.Files.{opens-length, callouts-length, file-size, accepted-file, file-length, write-read, read-write}
-
--- no refusal of two
-neither-refuses : (c later : ℕ) → orElse c later ≡ 0 → (c ≡ 0) × (later ≡ 0)
-unfolding orElse
-neither-refuses zero later e = (refl, e)
-neither-refuses (suc c) later e = absurd (omega arith)
-
-room-enough : (places wanted : ℕ) → wanted ≤ places → roomCode places wanted ≡ 0
-unfolding roomCode
-room-enough places wanted h = simp (le-ltb places wanted h)
 
 -- a file is written; the bytes written are read into tables that are long enough
 module _ (n : ℕ) (opens callouts : List ℕ) (wide : (i : ℕ) → i < n → getD callouts i 0 < 2 ^ 64)
@@ -60,33 +50,33 @@ module _ (n : ℕ) (opens callouts : List ℕ) (wide : (i : ℕ) → i < n → g
         (read ∙ rw (bytes-written, read-code, b .1), table ∙ rw (bytes-written, read-code, b .2, t .open-words), table′ ∙ rw (bytes-written, read-code, b .3, t .callout-words))
 
 -- a file is read; what was read is written into a buffer that is long enough
-module _ (file : List ℕ) (bytes : (i : ℕ) → i < length file → getD file i 0 < 256) (o k o′ k′ : List ℕ) (r : ReadAnswer)
+module _ (file o k o′ k′ : List ℕ) (r : ReadAnswer)
     (read : r ≡ readAnswer file (length o) (length k)) (table : o′ ≡ readOpens file o k) (table′ : k′ ≡ readCallouts file o k) (success : r .code ≡ 0) where
   passed : readCode file (length o) (length k) ≡ 0
   unfolding readAnswer
   passed = sym (ap (λ x. x .code) read) ∙ success
 
-  accepted-bytes : fileCode file ≡ 0
+  pub accepted-bytes : fileCode file ≡ 0
   unfolding readCode
   accepted-bytes = neither-refuses _ _ passed .0
 
-  items-read : r .n ≡ itemsIn file
+  pub items-read : r .n ≡ itemsIn file
   unfolding readAnswer unlessRefused
   items-read = ap (λ x. x .n) read ∙ rw passed
 
-  opens-read : take (r .n) o′ ≡ opensIn file
+  pub opens-read : take (r .n) o′ ≡ opensIn file
   unfolding readOpens written
   opens-read =
       let e : o′ ≡ opensIn file ++ drop (length (opensIn file)) o = table ∙ rw passed in
       ap₂ take items-read e ∙ take-at (opensIn file) _ (itemsIn file) (opens-length file accepted-bytes)
 
-  callouts-read : take (r .n) k′ ≡ calloutsIn file
+  pub callouts-read : take (r .n) k′ ≡ calloutsIn file
   unfolding readCallouts written
   callouts-read =
       let e : k′ ≡ calloutsIn file ++ drop (length (calloutsIn file)) k = table′ ∙ rw passed in
       ap₂ take items-read e ∙ take-at (calloutsIn file) _ (itemsIn file) (callouts-length file accepted-bytes)
 
-  module _ (old again : List ℕ) (w : WriteAnswer) (answer : w ≡ writeAnswer (r .n) (r .n) (take (r .n) o′) (take (r .n) k′) (length old))
+  module _ (bytes : (i : ℕ) → i < length file → getD file i 0 < 256) (old again : List ℕ) (w : WriteAnswer) (answer : w ≡ writeAnswer (r .n) (r .n) (take (r .n) o′) (take (r .n) k′) (length old))
       (buffer : again ≡ writeFile (r .n) (r .n) (take (r .n) o′) (take (r .n) k′) old) (room : length file ≤ length old) where
     write-code : writeCode (itemsIn file) (itemsIn file) (opensIn file) (calloutsIn file) (length old) ≡ 0
     unfolding writeCode orElse

@@ -8,6 +8,7 @@ use borrow.Rule.Slice.PartMut.{putMid as put}
 use lib.ListN.{length, getD, take, drop, replicate, length-append, length-take, length-drop, drop-of-length-le}
 use lib.Seq.{take-all, take-at, drop-at, take-take, drop-drop, drop-cons, length-take-le}
 use Rattle.model.specs.File.{lowBytes, mark, blocksFor, itemsOf, header, itemBytes, unused, checkOf, body, checked, blocks, fileBytes}
+use Rattle.model.proofs.Parts.{copied}
 use Rattle.model.proofs.FileBlocks.{low-length, items-length, body-length}
 
 -- ---- parts: `put a n l y` is l with y in the place of the n bytes from a on
@@ -48,10 +49,6 @@ item-written w c out x y h p q =
     let r : drop 8 (x ++ drop 8 out) ≡ drop 8 out = drop-at x (drop 8 out) 8 d in
     let z : length (take 8 (drop 8 (x ++ drop 8 out))) ≡ 8 = ap (λ l. length (take 8 l)) r ∙ length-take-le 8 (drop 8 out) (omega (arith, length-drop 8 out)) in
     put-two 8 8 out x y h d ∙ ap₂ _++_ a (q ∙ ap (λ k. lowBytes k c) z)
-
--- a copy over a whole part
-copied : (n : ℕ) (s d : List ℕ) → length s ≡ n → length d ≤ n → take n s ++ drop n d ≡ s
-copied n s d e h = ap₂ _++_ (take-all n s (omega arith)) (drop-of-length-le d {i = n} h) ∙ append-nil s
 
 pub header-written : (n b k : ℕ) (rest out x y : List ℕ) → length out ≡ 14 → mark ++ rest ≡ header n b k → x ≡ take 4 mark ++ drop 4 (take 4 out)
     → y ≡ take (length rest) rest ++ drop (length rest) (take 10 (drop 4 (x ++ drop 4 out))) → put 4 10 (x ++ drop 4 out) y ≡ header n b k

@@ -2,7 +2,7 @@
 mod layout;
 mod numbers;
 mod reader;
-mod reading;
+pub mod reading;
 mod writing;
 
 ghost use mathlib.Core.Path.{_≡_};

@@ -80,8 +80,8 @@ pub(crate) fn words_in(file: &[u8], place: usize, n: usize) -> [u64; 64]
     words
 }
 
-// Writes words over the front of a table.
-pub(crate) fn store(words: &[u64], table: &mut [u64])
+// Writes words over the front of a table. `read_file`, and `rota`'s usable table, have tested that it is long enough.
+pub fn store(words: &[u64], table: &mut [u64])
     requires { ⌜ length (now words) ≤ length (now table) ⌝ }
     ensures { λ _. ⌜ now (table .exit) ≡ now (words .entry) ++ drop (length (now (words .entry))) (now (table .entry)) ⌝ }
 {

@@ -1,7 +1,7 @@
 -- The bits of a word: each operation bit by bit, by min, max and -, which omega reads; two words with the same bits are equal.
 -- Assumes nothing.
 use mathlib.Core.Path.{_≡_, refl, sym, ap, ap₂, _∙_, subst}
-use mathlib.Core.Logic.{_≢_, _⊎_, inl, inr}
+use mathlib.Core.Logic.{_≢_, _⊎_, inl, inr, ⊎-elim}
 use mathlib.Core.Bool.{Bool, true, false}
 use Prim.Native.Nat.{ℕ, zero, suc, _+_, _-_, _*_, _/_, _%_, _^_, _≤_, _<_, min, max}
 use native.Mathlib.Nat.{le-trans, le-antisymm, lt-of-lt-of-le, mod-lt, mod-le, mod-eq-of-lt, div-one, div-eq-of-lt, div-mul-le-self, mul-assoc, mul-one, one-mul, mul-le-mul-right, pow-suc}
@@ -12,7 +12,7 @@ use borrow.Author.Tests.{eq-eqb, ne-eqb, eqb-true, eqb-false}
 use lib.Dec.{T, eqb, lit<}
 use lib.Pow.{pow-pos, pow-mono, pow-lt, shr-shr}
 use lib.Bits.{bitAnd, bitOr, and-step, or-step, and-lt, or-lt}
-use Rattle.words.specs.Word.{bit, has, with, without, low, minus}
+use Rattle.words.specs.Word.{bit, has, with, without, low, minus, select}
 
 -- ---- digit by digit
 
@@ -134,6 +134,18 @@ bit-not (suc k) w (suc j) h l =
 pub bit-minus : (a b j : ℕ) → b < 2 ^ 64 → j < 64 → bit (minus a b) j ≡ min (bit a j) (1 - bit b j)
 unfolding minus
 bit-minus a b j h l = bit-and a ((2 ^ 64 - 1) - b) j ∙ ap (min (bit a j)) (bit-not 64 b j h l)
+
+-- a bit of a selection, as a function g of the bit that selects
+pub bit-select : (a b c j : ℕ) (g : ℕ → ℕ) → b < 2 ^ 64 → j < 64 → bit a j ≡ g 0 → bit c j ≡ g 1 → bit (select a b c) j ≡ g (bit b j)
+unfolding select
+bit-select a b c j g h l ea ec =
+    let bits = bit-or (minus a b) (bitAnd c b) j in
+    let from-a = bit-minus a b j h l in
+    let from-c = bit-and c b j in
+    ⊎-elim
+    (λ z. let e : bit (select a b c) j ≡ bit a j = omega (arith, bit-lt a j) in e ∙ ea ∙ ap g (sym z))
+    (λ o. let e : bit (select a b c) j ≡ bit c j = omega (arith, bit-lt c j) in e ∙ ec ∙ ap g (sym o))
+    (bit-cases b j)
 
 -- ---- one slot alone
 

@@ -2,3 +2,4 @@ pub mod Bits
 pub mod Sums
 pub mod Sets
 pub mod Walk
+pub mod Sweep

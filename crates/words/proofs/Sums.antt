@@ -146,9 +146,12 @@ pub sum-scale : (c : ℕ) (f : ℕ → ℕ) (n : ℕ) → sum (λ i. c * f i) n 
 unfolding sum
 sum-scale c f n = total-scale c f (below n)
 
-pub sum-none : (f : ℕ → ℕ) (n : ℕ) → ((i : ℕ) → i < n → f i ≡ 0) → sum f n ≡ 0
+pub sum-const : (c n : ℕ) → sum (λ i. c) n ≡ n * c
 unfolding sum
-sum-none f n h = sum-cong f (λ i. 0) n h ∙ total-const 0 (below n) ∙ mul-zero (length (below n))
+sum-const c n = total-const c (below n) ∙ ap (_* c) (length-below n)
+
+pub sum-none : (f : ℕ → ℕ) (n : ℕ) → ((i : ℕ) → i < n → f i ≡ 0) → sum f n ≡ 0
+sum-none f n h = sum-cong f (λ i. 0) n h ∙ sum-const 0 n ∙ mul-zero n
 
 -- g is f but for slot j, where it is 0
 pub sum-pick : (f g : ℕ → ℕ) (n j : ℕ) → j < n → g j ≡ 0 → ((i : ℕ) → i ≢ j → g i ≡ f i) → sum f n ≡ f j + sum g n
@@ -201,3 +204,15 @@ sum-injection (suc n) m g f p into most apart =
         let d : p i ≢ p n = λ e. let q = apart i n (omega arith) (omega arith) y z e in omega arith in
         omega (arith, most i (omega arith) y, except-other f (p n) (p i) d)) in
         omega (arith, sum-suc g n, sum-except f m (p n) (into n (omega arith) z), most n (omega arith) z)
+
+-- p is a permutation of the slots below n: it carries f's sum to itself, since no sum can grow, that of the complement neither
+pub sum-permutation : (n : ℕ) (f p : ℕ → ℕ) → ((i : ℕ) → i < n → p i < n) → ((i k : ℕ) → i < n → k < n → p i ≡ p k → i ≡ k)
+    → sum (λ i. f (p i)) n ≡ sum f n
+sum-permutation n f p into apart =
+    let s = sum f n in
+    let most : (k : ℕ) → k < n → f k ≤ s = λ k h. omega (arith, sum-except f n k h) in
+    let carry : (g : ℕ → ℕ) → sum (λ i. g (p i)) n ≤ sum g n = λ g.
+    sum-injection n n (λ i. g (p i)) g p (λ i h z. into i h) (λ i h z. omega arith) (λ i k h l y z. apart i k h l) in
+    let whole : sum (λ k. f k + (s - f k)) n ≡ n * s = sum-cong _ (λ k. s) n (λ k h. omega (arith, most k h)) ∙ sum-const s n in
+    let whole′ : sum (λ i. f (p i) + (s - f (p i))) n ≡ n * s = sum-cong _ (λ k. s) n (λ i h. omega (arith, most (p i) (into i h))) ∙ sum-const s n in
+    omega (arith, carry f, carry (λ k. s - f k), whole, whole′, sum-add f (λ k. s - f k) n, sum-add (λ i. f (p i)) (λ i. s - f (p i)) n)

@@ -2,7 +2,7 @@
 -- both of two words are its `bitAnd`, those in either its `bitOr`. Assumes nothing.
 use mathlib.Core.Bool.{Bool}
 use Prim.Native.Nat.{ℕ, _+_, _-_, _*_, _/_, _%_, _^_}
-use lib.Bits.{bitAnd}
+use lib.Bits.{bitAnd, bitOr}
 use lib.Count.{trailingZeros}
 use lib.Dec.{eqb}
 
@@ -28,6 +28,10 @@ without w j = w - bit w j * 2 ^ j
 -- the slots of a that are not in the 64-bit word b
 unfoldable pub minus : ℕ → ℕ → ℕ
 minus a b = bitAnd a ((2 ^ 64 - 1) - b)
+
+-- the slots of a outside b, and those of c in b
+unfoldable pub select : ℕ → ℕ → ℕ → ℕ
+select a b c = bitOr (minus a b) (bitAnd c b)
 
 -- the slots 0 to n - 1
 unfoldable pub low : ℕ → ℕ

@@ -3,7 +3,7 @@ ghost use mathlib.Core.Path.{_≡_};
 ghost use mathlib.Core.Logic.{_≢_};
 ghost use Prim.Native.Nat.{ℕ, _^_, _≤_, _<_};
 ghost use lib.Count.{ones};
-ghost use Rattle.words.specs.Word.{has, with, without, low, lowest, minus};
+ghost use Rattle.words.specs.Word.{bit, has, with, without, low, lowest, minus, select};
 
 // Whether slot j is in w.
 pub fn has(w: u64, j: usize) -> bool
@@ -11,6 +11,14 @@ pub fn has(w: u64, j: usize) -> bool
     ensures { λ r. ⌜ r ≡ has w j ⌝ }
 {
     (w >> j) % 2 == 1
+}
+
+// 1 if slot j is in w, else 0.
+pub fn bit(w: u64, j: usize) -> usize
+    requires { ⌜ j < 64 ⌝ }
+    ensures { λ r. ⌜ r ≡ bit w j ⌝ }
+{
+    ((w >> j) % 2) as usize
 }
 
 // The set of slot j alone.
@@ -42,6 +50,13 @@ pub fn minus(a: u64, b: u64) -> u64
     ensures { λ r. ⌜ r ≡ minus a b ⌝ }
 {
     a & !b
+}
+
+// The slots of a outside b, and those of c in b.
+pub fn select(a: u64, b: u64, c: u64) -> u64
+    ensures { λ r. ⌜ r ≡ select a b c ⌝ }
+{
+    minus(a, b) | (c & b)
 }
 
 // The n low slots; for n = 64 all of them, with no shift by 64.

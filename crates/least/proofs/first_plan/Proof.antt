@@ -1,11 +1,9 @@
 -- `least::first_plan` meets its contract: the table is filled and settled, or the exposed items and the dead slots give the deficient set. Assumes nothing.
-use mathlib.Core.Path.{_≡_, refl, ap, _∙_}
-use mathlib.Core.List.{List}
-use Prim.Native.Nat.{ℕ, _≤_, _<_, _^_}
+use mathlib.Core.Path.{_∙_}
+use Prim.Native.Nat.{ℕ, _<_, _^_}
 use native.Mathlib.Omega.{arith}
-use lib.Count.{ones-le}
 use lib.ListN.{length, getD}
-use Rattle.maximum.proofs.Deficient.{none-exposed-complete}
+use Rattle.maximum.proofs.Deficient.{none-exposed-complete, dead-owners}
 use Rattle.maximum.proofs.Filling.{all-fillable}
 use Rattle.least.proofs.Firsts.{whole-settleable, first-found, first-none}
 use borrow.Author.Needs.{needs}
@@ -33,21 +31,13 @@ returns c =
     let k = c .before .before .before .before .before .before .before .before .before in
     first-found _ (k .before .pre) (range k) _ _ (c .settle .ensures)
 
-size-requires : tie.Need-size-requires
-size-requires c κs = search needs
-
-cast-t17 : tie.Need-cast-t17
-cast-t17 c = let F = c .before .before .fill .ensures in record { fits = omega (arith, c .size .ensures, ones-le _ _ (F .items), F .table .few) }
-
-deficient-set-requires : tie.Need-deficient-set-requires
-deficient-set-requires c κs =
-    let F = c .before .before .before .fill .ensures in
-    (F .table .owners, λ k h b. let i = F .table .item k h (F .held k h b) in omega (arith, F .table .few))
+no-plan-requires : tie.Need-no-plan-requires
+no-plan-requires c κs = dead-owners _ _ _ _ _ _ (c .before .before .fill .ensures)
 
 returns-2 : tie.Need-returns-2
 returns-2 c =
-    let k = c .before .before .before .before .before .before .before .before .before in
-    first-none _ (k .before .pre) (range k) _ _ _ _ _ _ _ (c .before .before .before .before .fill .ensures) (c .before .before .before .if1 .left) (c .before .before .size .ensures) (c .deficient-set .ensures)
+    let k = c .before .before .before .before .before .before .before .before in
+    c .no-plan .ensures ∙ first-none _ (k .before .pre) (range k) _ _ _ _ _ (c .before .before .before .fill .ensures) (c .before .before .if1 .left)
 
 pub first-plan-spec : {M : Type 1} → statement M
 first-plan-spec =
@@ -58,7 +48,5 @@ first-plan-spec =
     fill-requires
     settle-requires
     returns
-    size-requires
-    cast-t17
-    deficient-set-requires
+    no-plan-requires
     returns-2)

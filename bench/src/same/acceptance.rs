@@ -1,0 +1,53 @@
+//! Refusals 1 to 4: whether two tables are accepted as a rota; and a refused call's answer.
+
+use super::words;
+use crate::records::{Plan, PlanAnswer};
+
+// The first refusal: 3 for open bits beyond the slots, then 4 for callout bits on closed cells.
+fn first_code(beyond: u64, closed: u64) -> u32 {
+    if beyond != 0 {
+        return 3;
+    }
+    if closed != 0 {
+        return 4;
+    }
+    0
+}
+
+// 3, 4 or 0 of the words of m slots: what is wrong in any word is gathered first, so 3 over all items comes before 4.
+pub fn cell_code(m: usize, opens: &[u64], callouts: &[u64]) -> u32 {
+    let slots = words::low(m);
+    let mut beyond: u64 = 0;
+    let mut closed: u64 = 0;
+    let mut i = 0;
+    while i < opens.len() {
+        let w = opens[i];
+        let c = callouts[i];
+        beyond = beyond | words::minus(w, slots);
+        closed = closed | words::minus(c, w);
+        i += 1;
+    }
+    first_code(beyond, closed)
+}
+
+// 1, 2, 3, 4 or 0 of a rota of n items and n slots.
+pub fn table_code(n: usize, opens: &[u64], callouts: &[u64]) -> u32 {
+    if n == 0 {
+        return 1;
+    }
+    if 64 < n {
+        return 1;
+    }
+    if opens.len() != n {
+        return 2;
+    }
+    if callouts.len() != n {
+        return 2;
+    }
+    cell_code(n, opens, callouts)
+}
+
+// A refused call's answer: the blank plan and zeros.
+pub fn refusal(code: u32) -> PlanAnswer {
+    PlanAnswer { code, shortage: 0, items: 0, callouts: 0, plan: Plan { slots: [255u8; 64] } }
+}

@@ -1,0 +1,97 @@
+//! The layered augmenting search over words. A partial matching of items and slots stands in two tables and a word: owner[k] is
+//! the item that holds slot k, slot[x] the slot that item x holds, and `free` the slots that nobody holds. What `owner` has at a
+//! free slot means nothing, nor what `slot` has at an item without one.
+
+use super::words;
+
+// A slot that was found, below 64, and the word of free slots afterwards; or 64, and the closed set that rules every slot out.
+pub struct Found {
+    pub at: usize,
+    pub word: u64,
+}
+
+// The item that holds slot k.
+pub fn holder(owner: &[u8; 64], k: usize) -> usize {
+    words::wide(owner[k])
+}
+
+// The slots open to the holders of the slots of `set`.
+pub fn span(opens: &[u64], owner: &[u8; 64], set: u64) -> u64 {
+    let mut all: u64 = 0;
+    let mut left = set;
+    while left != 0 {
+        let y = holder(owner, words::lowest(left));
+        left = words::without_lowest(left);
+        all = all | opens[y];
+    }
+    all
+}
+
+// The lowest slot of `set` whose holder may use slot h.
+pub fn mover(opens: &[u64], owner: &[u8; 64], set: u64, h: usize) -> usize {
+    let mut left = set;
+    while left != 0 {
+        let k = words::lowest(left);
+        let y = holder(owner, k);
+        if words::has(opens[y], h) {
+            return k;
+        }
+        left = words::without_lowest(left);
+    }
+    0
+}
+
+// The holder of a slot of `set` goes to the free slot h.
+pub fn pass(opens: &[u64], owner: &mut [u8; 64], slot: &mut [u8; 64], free: u64, set: u64, h: usize) -> Found {
+    let k = mover(opens, owner, set, h);
+    let y = holder(owner, k);
+    owner[h] = y as u8;
+    slot[y] = h as u8;
+    Found { at: k, word: words::without(words::with(free, k), h) }
+}
+
+// One slot of `set` is made free: holders move along a shortest chain that ends in a free slot. The slots of `seen` but that one
+// keep their holders.
+pub fn vacate(opens: &[u64], owner: &mut [u8; 64], slot: &mut [u8; 64], free: u64, set: u64, seen: u64) -> Found {
+    let reach = span(opens, owner, set);
+    let hit = reach & free;
+    if hit != 0 {
+        return pass(opens, owner, slot, free, set, words::lowest(hit));
+    }
+    let layer = words::minus(reach, seen);
+    if layer == 0 {
+        return Found { at: 64, word: seen };
+    }
+    let r = vacate(opens, owner, slot, free, layer, seen | layer);
+    if r.at == 64 {
+        return r;
+    }
+    pass(opens, owner, slot, r.word, set, r.at)
+}
+
+// Item x, which holds no slot, gets one of `cand` if that is possible with the slots of `keep` left to their holders.
+pub fn assign(
+    opens: &[u64],
+    owner: &mut [u8; 64],
+    slot: &mut [u8; 64],
+    free: u64,
+    x: usize,
+    cand: u64,
+    keep: u64,
+) -> Found {
+    let hit = cand & free;
+    if hit != 0 {
+        let h = words::lowest(hit);
+        owner[h] = x as u8;
+        slot[x] = h as u8;
+        return Found { at: h, word: words::without(free, h) };
+    }
+    let r = vacate(opens, owner, slot, free, cand, keep | cand);
+    if r.at == 64 {
+        return r;
+    }
+    let k = r.at;
+    owner[k] = x as u8;
+    slot[x] = k as u8;
+    Found { at: k, word: words::without(r.word, k) }
+}

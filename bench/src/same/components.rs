@@ -1,0 +1,69 @@
+//! The allowed cells of a complete table: for each item the slots that some complete plan gives it, by strongly connected components.
+//! In the graph on the slots a held slot leads to the slots open to its holder, and a free slot to every slot, as if a spare item that
+//! may use them all held it.
+
+use super::{augment, maximum, words};
+
+// The slots that are not finished yet; and a set that leads back into the path, with the slots that it leads to. Both are empty if
+// the component is finished.
+struct Part {
+    rest: u64,
+    set: u64,
+    out: u64,
+}
+
+// The holders of the slots of `held` get their open slots in `set`, their component.
+fn mark(opens: &[u64], owner: &[u8; 64], allowed: &mut [u64; 64], set: u64, held: u64) {
+    let mut left = held;
+    while left != 0 {
+        let y = augment::holder(owner, words::lowest(left));
+        left = words::without_lowest(left);
+        allowed[y] = opens[y] & set;
+    }
+}
+
+// Grows the component of the slots of `set`, which lead to those of `out`, until it is finished or leads back into `path`, the slots
+// from which the set was reached.
+fn grow(
+    opens: &[u64],
+    owner: &[u8; 64],
+    free: u64,
+    allowed: &mut [u64; 64],
+    rest: u64,
+    path: u64,
+    set: u64,
+    out: u64,
+) -> Part {
+    let next = words::minus(rest & out, set);
+    if next == 0 {
+        mark(opens, owner, allowed, set, words::minus(set, free));
+        return Part { rest: words::minus(rest, set), set: 0, out: 0 };
+    }
+    if next & path != 0 {
+        return Part { rest: rest, set: set, out: out };
+    }
+    let k = words::lowest(next);
+    let y = augment::holder(owner, k);
+    let r = grow(opens, owner, free, allowed, rest, path | set, words::single(k), opens[y]);
+    grow(opens, owner, free, allowed, r.rest, path, set | r.set, out | r.out)
+}
+
+// For each item the slots that some complete plan gives it. The first set is the free slots, which lead to every slot; where there is
+// none, the search goes to every slot all the same.
+pub fn allowed_words(opens: &[u64], owner: &[u8; 64], free: u64) -> [u64; 64] {
+    let mut allowed = [0u64; 64];
+    let all = words::low(64);
+    grow(opens, owner, free, &mut allowed, all, 0, free, all);
+    allowed
+}
+
+// The same from the open words alone; zeros where there is no plan.
+pub fn allowed_slots(opens: &[u64]) -> [u64; 64] {
+    let mut owner = [0u8; 64];
+    let mut slot = [0u8; 64];
+    let m = maximum::fill(opens, &mut owner, &mut slot, words::low(64), words::low(opens.len()));
+    if m.exposed != 0 {
+        return [0u64; 64];
+    }
+    allowed_words(opens, &owner, m.free)
+}

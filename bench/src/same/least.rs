@@ -1,0 +1,113 @@
+//! The least perfect matching (document 01's first plan): a complete table is made least item by item, with the slots of the items
+//! before left to them. The tables are those of `augment`.
+
+use super::augment::Found;
+use super::{augment, maximum, words};
+use crate::records::{Plan, PlanAnswer};
+
+// Item x moves to a slot of `cand` if that is possible with the slots of `keep` left to their holders.
+pub fn shift(
+    opens: &[u64],
+    owner: &mut [u8; 64],
+    slot: &mut [u8; 64],
+    free: u64,
+    x: usize,
+    cand: u64,
+    keep: u64,
+) -> Found {
+    let s = words::wide(slot[x]);
+    augment::assign(opens, owner, slot, words::with(free, s), x, cand, keep)
+}
+
+// Item x, which holds a slot of `may`, moves to the least of these that leaves the slots of `keep` to their holders.
+pub fn lower(
+    opens: &[u64],
+    owner: &mut [u8; 64],
+    slot: &mut [u8; 64],
+    free: u64,
+    x: usize,
+    may: u64,
+    keep: u64,
+) -> Found {
+    let all = words::minus(may, keep);
+    let mut f = free;
+    let mut s = words::wide(slot[x]);
+    while s != 0 {
+        let cand = all & words::low(s);
+        if cand == 0 {
+            return Found { at: s, word: f };
+        }
+        let r = shift(opens, owner, slot, f, x, cand, keep);
+        if r.at == 64 {
+            return Found { at: s, word: f };
+        }
+        f = r.word;
+        s = r.at;
+    }
+    Found { at: s, word: f }
+}
+
+// For each item from `from` on, the slots open to the items after it.
+pub fn later(opens: &[u64], from: usize) -> [u64; 64] {
+    let mut table = [0u64; 64];
+    let mut all: u64 = 0;
+    let mut i = opens.len();
+    while i > from {
+        i -= 1;
+        table[i] = all;
+        all = all | opens[i];
+    }
+    table
+}
+
+// Whether an item may leave its slot s at all, with the items before it left alone: only if an item after it may use s, or it or one
+// of these may use a free slot. `after` are the slots open to the items after it; 0 means no.
+pub fn loose(s: usize, word: u64, after: u64, free: u64) -> u64 {
+    (after & words::single(s)) | ((after | word) & free)
+}
+
+// Item x gets the least slot that leaves those of the items before it to them.
+pub fn sink(
+    opens: &[u64],
+    owner: &mut [u8; 64],
+    slot: &mut [u8; 64],
+    free: u64,
+    x: usize,
+    after: u64,
+    keep: u64,
+) -> Found {
+    let s = words::wide(slot[x]);
+    let word = opens[x];
+    if loose(s, word, after, free) == 0 {
+        return Found { at: s, word: free };
+    }
+    lower(opens, owner, slot, free, x, word, keep)
+}
+
+// The items from `from` on get, one after the other, their least slots; `keep` are the slots of the items before.
+pub fn settle(opens: &[u64], owner: &mut [u8; 64], slot: &mut [u8; 64], free: u64, from: usize, keep: u64) {
+    let table = later(opens, from);
+    let mut f = free;
+    let mut kept = keep;
+    let mut i = from;
+    while i < opens.len() {
+        let after = table[i];
+        let r = sink(opens, owner, slot, f, i, after, kept);
+        f = r.word;
+        kept = words::with(kept, r.at);
+        i += 1;
+    }
+}
+
+// The first plan; or 9 with the deficient set and the deficiency.
+pub fn first_plan(opens: &[u64]) -> PlanAnswer {
+    let mut owner = [0u8; 64];
+    let mut slot = [0u8; 64];
+    let m = maximum::fill(opens, &mut owner, &mut slot, words::low(64), words::low(opens.len()));
+    let exposed = m.exposed;
+    if exposed == 0 {
+        settle(opens, &mut owner, &mut slot, m.free, 0, 0);
+        return PlanAnswer { code: 0, shortage: 0, items: 0, callouts: 0, plan: Plan { slots: slot } };
+    }
+    maximum::no_plan(&owner, exposed, m.dead)
+}

@@ -1,0 +1,56 @@
+//! Maximum matchings, and the deficient set that shows that no matching is larger (document 01's shortage). The tables are those
+//! of `augment`.
+
+use super::{augment, words};
+use crate::records::{Plan, PlanAnswer};
+
+// The free slots, the exposed items, and the dead slots: those that no item may use in any matching that serves more.
+pub struct Maximum {
+    pub free: u64,
+    pub exposed: u64,
+    pub dead: u64,
+}
+
+// Each item of `todo`, none of which holds a slot, gets one if that is possible without exposing another.
+pub fn fill(opens: &[u64], owner: &mut [u8; 64], slot: &mut [u8; 64], free: u64, todo: u64) -> Maximum {
+    let mut f = free;
+    let mut exposed: u64 = 0;
+    let mut dead: u64 = 0;
+    let mut left = todo;
+    while left != 0 {
+        let x = words::lowest(left);
+        left = words::without_lowest(left);
+        let cand = words::minus(opens[x], dead);
+        let r = augment::assign(opens, owner, slot, f, x, cand, dead);
+        if r.at == 64 {
+            exposed = words::with(exposed, x);
+            dead = r.word;
+        } else {
+            f = r.word;
+        }
+    }
+    Maximum { free: f, exposed: exposed, dead: dead }
+}
+
+// The deficient set: the exposed items and the holders of the dead slots.
+pub fn deficient_set(owner: &[u8; 64], exposed: u64, dead: u64) -> u64 {
+    let mut all = exposed;
+    let mut left = dead;
+    while left != 0 {
+        let y = augment::holder(owner, words::lowest(left));
+        left = words::without_lowest(left);
+        all = words::with(all, y);
+    }
+    all
+}
+
+// 9: no complete plan exists.
+pub fn no_plan(owner: &[u8; 64], exposed: u64, dead: u64) -> PlanAnswer {
+    PlanAnswer {
+        code: 9,
+        shortage: words::size(exposed) as u32,
+        items: deficient_set(owner, exposed, dead),
+        callouts: 0,
+        plan: Plan { slots: [255u8; 64] },
+    }
+}

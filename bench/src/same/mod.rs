@@ -1,0 +1,20 @@
+//! The library's algorithms in Rust: a module for each Rattle source, with the same functions and the usual tests of bounds.
+
+mod acceptance;
+mod augment;
+mod components;
+mod layout;
+mod least;
+mod maximum;
+mod min_cost;
+mod next;
+mod numbers;
+mod permanent;
+mod reader;
+mod reading;
+mod refusals;
+pub mod rota;
+mod rota_file;
+mod tariff;
+mod words;
+mod writing;

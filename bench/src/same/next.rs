@@ -1,0 +1,112 @@
+//! The next perfect matching after a given one (document 01's next plan). The tables are those of `augment`.
+
+use super::augment::Found;
+use super::{acceptance, least, words};
+use crate::records::{Plan, PlanAnswer};
+
+// Whether the bytes from n on are 0.
+pub fn zeros_from(plan: [u8; 64], n: usize) -> bool {
+    let mut i = n;
+    while i < 64 {
+        if plan[i] != 0 {
+            return false;
+        }
+        i += 1;
+    }
+    true
+}
+
+// What became of a record that is to be a plan.
+pub struct Adoption {
+    pub ok: bool,
+    pub free: u64,
+}
+
+// Each item's byte is an open slot that no item before it has; `owner` gets the holders.
+pub fn adopt_items(opens: &[u64], plan: [u8; 64], owner: &mut [u8; 64]) -> Adoption {
+    let mut free = words::low(64);
+    let mut i = 0;
+    while i < opens.len() {
+        let s = words::wide(plan[i]);
+        if s >= 64 {
+            return Adoption { ok: false, free };
+        }
+        if !words::has(opens[i], s) {
+            return Adoption { ok: false, free };
+        }
+        if !words::has(free, s) {
+            return Adoption { ok: false, free };
+        }
+        owner[s] = i as u8;
+        free = words::without(free, s);
+        i += 1;
+    }
+    Adoption { ok: true, free }
+}
+
+// Whether a record is a plan: then `owner` gets the holders, and the answer has the free slots.
+pub fn adopt(opens: &[u64], plan: [u8; 64], owner: &mut [u8; 64]) -> Adoption {
+    if !zeros_from(plan, opens.len()) {
+        return Adoption { ok: false, free: 0 };
+    }
+    adopt_items(opens, plan, owner)
+}
+
+// Item x moves to the least slot above its own that leaves those of the items before it to them, if there is one. `after` are the
+// slots open to the items after it.
+pub fn climb(
+    opens: &[u64],
+    owner: &mut [u8; 64],
+    slot: &mut [u8; 64],
+    free: u64,
+    x: usize,
+    after: u64,
+    keep: u64,
+) -> Found {
+    let s = words::wide(slot[x]);
+    let word = opens[x];
+    if least::loose(s, word, after, free) == 0 {
+        return Found { at: 64, word: free };
+    }
+    let may = words::minus(word, words::low(s + 1));
+    let cand = words::minus(may, keep);
+    if cand == 0 {
+        return Found { at: 64, word: free };
+    }
+    let r = least::shift(opens, owner, slot, free, x, cand, keep);
+    if r.at == 64 {
+        return r;
+    }
+    least::lower(opens, owner, slot, r.word, x, may, keep)
+}
+
+// The plan after the one that a complete table holds; 10 where none follows. From the last item on, the first that can climb does,
+// and the items after it get their least slots.
+pub fn advance(opens: &[u64], plan: [u8; 64], owner: &mut [u8; 64], free: u64) -> PlanAnswer {
+    let mut slot = plan;
+    let mut keep = words::minus(words::low(64), free);
+    let mut after: u64 = 0;
+    let mut i = opens.len();
+    while i > 0 {
+        i -= 1;
+        keep = words::without(keep, words::wide(plan[i]));
+        let r = climb(opens, owner, &mut slot, free, i, after, keep);
+        if r.at != 64 {
+            least::settle(opens, owner, &mut slot, r.word, i + 1, words::with(keep, r.at));
+            return PlanAnswer { code: 0, shortage: 0, items: 0, callouts: 0, plan: Plan { slots: slot } };
+        }
+        after = after | opens[i];
+    }
+    acceptance::refusal(10)
+}
+
+// The plan after the given one; 8 where that is none of this rota, 10 where none follows.
+pub fn next_plan(opens: &[u64], given: Plan) -> PlanAnswer {
+    let plan = given.slots;
+    let mut owner = [0u8; 64];
+    let a = adopt(opens, plan, &mut owner);
+    if !a.ok {
+        return acceptance::refusal(8);
+    }
+    advance(opens, plan, &mut owner, a.free)
+}

@@ -1,0 +1,203 @@
+-- A round of the loop: the duals of the exposed items, of the holders of the dead slots and of these slots grow by 1. Assumes nothing.
+use mathlib.Core.Path.{_≡_, refl, sym, ap, _∙_, subst}
+use mathlib.Core.Logic.{_≢_}
+use mathlib.Core.List.{List}
+use Prim.Native.Nat.{ℕ, _+_, _-_, _^_, _≤_, _<_}
+use native.Mathlib.Nat.{lt-of-le-of-lt, add-zero}
+use native.Mathlib.Omega.{arith}
+use lib.Bits.{bitOr, and-le-l}
+use lib.Count.{ones}
+use lib.ListN.{length, getD, set, replicate, getD-replicate}
+use lib.Seq.{getD-set-other}
+use Rattle.words.specs.Word.{bit, low}
+use Rattle.words.specs.Sum.{sum}
+use Rattle.words.proofs.Bits.{bit-lt, bit-empty, bit-low}
+use Rattle.words.proofs.Sets.{ones-sum, ones-none, high-empty}
+use Rattle.words.proofs.Sums.{sum-cong, sum-add}
+use Rattle.model.specs.Plans.{IsPlan}
+use Rattle.model.proofs.Laws.{callouts-le}
+use Rattle.augment.specs.Table.{own, cell}
+use Rattle.augment.proofs.Moves.{same-or}
+use Rattle.maximum.specs.Maximum.{Fillable, Filled, holders}
+use Rattle.maximum.proofs.Deficient.{deficient-lt, deficient-ones, deficient-shut, deficient-holder}
+use Rattle.min_cost.specs.Dual.{Square, Levels, Lifted, tightWord, Repriceable, Repriced}
+use Rattle.min_cost.proofs.Levels.{tight-bit}
+use Rattle.min_cost.proofs.Duals.{Duals, Tight, open-range, tight-open, open-tight, slot-below, bound}
+
+-- ---- the duals
+
+module _ {w c : List ℕ} (S : Square w c) {u v : ℕ → ℕ} {r : ℕ} {t : List ℕ} (D : Duals w c u v r) (T : Tight w c u v t) {o p : List ℕ} {f e d : ℕ}
+    (F : Filled t o p f e d) where
+  abbrev up : ℕ
+  up = bitOr e (holders o d)
+
+  abbrev u₁ : ℕ → ℕ
+  u₁ i = u i + bit up i
+
+  abbrev v₁ : ℕ → ℕ
+  v₁ k = v k + bit d k
+
+  holder-known : (k : ℕ) → k < 64 → bit f k ≡ 0 → own o k < length w
+  holder-known k h b = omega (arith, F .table .item k h b, T .sized)
+
+  -- a held cell is tight
+  held-tight : (k : ℕ) → k < 64 → bit f k ≡ 0 → (cell w (own o k) k ≡ 1) × (u (own o k) + 1 ≡ cell c (own o k) k + v k)
+  held-tight k h b = tight-open T (own o k) k (holder-known k h b) h (F .table .open-cell k h b)
+
+  dead-lt : d < 2 ^ length w
+  dead-lt = high-empty 64 d (length w) (F .fits) (λ k g h. same-or (bit d k) 1
+      (λ b.
+      let z = F .held k h b in
+      absurd (omega (arith, slot-below S (own o k) (holder-known k h z) k (held-tight k h z .0))))
+      (λ m. omega (arith, bit-lt d k)))
+
+  -- an item that is raised has no tight cell outside the dead slots
+  raised-fair : (i k : ℕ) → i < length w → k < 64 → cell w i k ≡ 1 → u₁ i + 1 ≤ cell c i k + v₁ k
+  raised-fair i k h g b =
+      let le = D .fair i k h g b in
+      same-or (bit up i) 1
+      (λ a. same-or (u i + 1) (cell c i k + v k)
+      (λ q. omega (arith, open-tight T i k h g b q, deficient-shut t o p f e d F i (omega (arith, T .sized)) a k g))
+      (λ q. omega arith))
+      (λ a. omega (arith, bit-lt up i))
+
+  up-sum : sum (bit up) (length w) ≡ ones e + sum (bit d) (length w)
+  up-sum =
+      ap (sum (bit up)) (sym (T .sized)) ∙ sym (ones-sum (length t) up (deficient-lt t o p f e d F)) ∙ deficient-ones t o p f e d F
+      ∙ ap (ones e +_) (ones-sum (length w) d dead-lt)
+
+  pub exposed-some : e ≢ 0 → ones e ≢ 0
+  exposed-some some z = some (ones-none (length t) e (F .items) z)
+
+  pub raised : e ≢ 0 → {s : ℕ} → s ≡ ones e → Duals w c u₁ v₁ (r + s)
+  raised some es =
+      record {
+        fair = raised-fair;
+        cap = λ i h. let z = exposed-some some in omega (arith, D .cap i h, bit-lt up i);
+        total =
+            let n = length w in
+            let order = sum-cong (λ i. u₁ i + 1) (λ i. (u i + 1) + bit up i) n (λ i h. omega arith) in
+            omega (arith, order, D .total, up-sum, sum-add (λ i. u i + 1) (bit up) n, sum-add v (bit d) n);
+      }
+
+  -- held cells stay tight
+  pub refillable : {t′ : List ℕ} → Tight w c u₁ v₁ t′ → Fillable t′ o p f e
+  refillable {t′} T′ =
+      let same : length t ≡ length t′ = T .sized ∙ sym (T′ .sized) in
+      record {
+        table = record {
+          few = omega (arith, F .table .few, same);
+          range = T′ .range;
+          owners = F .table .owners;
+          slots = F .table .slots;
+          item = λ k h b. omega (arith, F .table .item k h b, same);
+          open-cell = λ k h b.
+              let q = held-tight k h b in
+              open-tight T′ (own o k) k (holder-known k h b) h (q .0) (omega (arith, q .1, deficient-holder t o p f e d F k h b));
+          back = F .table .back;
+          zeros = λ x h g. F .table .zeros x (omega (arith, same)) g;
+        };
+        items = subst (λ n. e < 2 ^ n) same (F .items);
+        exposed = F .exposed;
+        matched = λ x h b. F .matched x (omega (arith, same)) b;
+      }
+
+-- ---- the loop
+
+-- duals, the levels l of the slots, and the prices y of the items, of which those of up are yet to grow
+pub record Ready (w c l y : List ℕ) (up : ℕ) (u v : ℕ → ℕ) (r : ℕ) : Type 0 where
+  pub duals : Duals w c u v r
+  pub levels : Levels l v
+  pub prices : length y ≡ 64
+  pub price : (i : ℕ) → i < length w → getD y i 0 + bit up i ≡ u i
+  pub small : (i : ℕ) → i < length w → u i ≤ 64
+
+-- and a maximum matching of the tight cells
+pub record Rounds (w c t y l o p : List ℕ) (f e d r : ℕ) : Type 0 where
+  pub u : ℕ → ℕ
+  pub v : ℕ → ℕ
+  pub ready : Ready w c l y 0 u v r
+  pub tight : Tight w c u v t
+  pub filled : Filled t o p f e d
+
+module _ {w c : List ℕ} (S : Square w c) where
+  module _ {l y : List ℕ} {up : ℕ} {u v : ℕ → ℕ} {r : ℕ} (A : Ready w c l y up u v r) where
+    pub ready-repriceable : {t : List ℕ} → length t ≡ length w → Repriceable w c l y t up
+    ready-repriceable e =
+        record {
+          few = S .few;
+          same = S .same;
+          levels = A .levels .sized;
+          prices = A .prices;
+          words = e;
+          room = λ i h. omega (arith, A .price i h, A .small i h);
+        }
+
+    module _ {y′ t : List ℕ} (R : Repriced w c l y up y′ t) where
+      pub ready-tight : Tight w c u v t
+      unfolding tightWord
+      ready-tight =
+          record {
+            sized = R .words;
+            range = λ i h. let g : i < length w = omega (arith, R .words) in rw (R .word i g) (lt-of-le-of-lt (and-le-l (getD w i 0) _) (open-range S i g));
+            word = λ i k h g.
+                ap (λ z. bit z k) (R .word i h ∙ ap (tightWord l (getD w i 0) (getD c i 0)) (A .price i h))
+                ∙ tight-bit (A .levels) (getD w i 0) (getD c i 0) (u i) k (R .range i h) g (A .small i h);
+          }
+
+      pub ready-rounds : {o p : List ℕ} {f e d : ℕ} → Filled t o p f e d → Rounds w c t y′ l o p f e d r
+      ready-rounds F =
+          record {
+            u = u;
+            v = v;
+            ready = record {
+              duals = A .duals;
+              levels = A .levels;
+              prices = R .prices;
+              price = λ i h. omega (arith, R .price i h, A .price i h, bit-empty i);
+              small = A .small;
+            };
+            tight = ready-tight;
+            filled = F;
+          }
+
+  -- all numbers are 1
+  pub start-ready : {all : ℕ} → all ≡ low 64 → Ready w c (set (replicate 66 0) 1 all) (replicate 64 0) 0 (λ i. 0) (λ k. 1) 0
+  start-ready {all} A =
+      record {
+        duals = record { fair = λ i k h g b. omega arith; cap = λ i h. omega arith; total = sym (add-zero (sum (λ k. 1) (length w))) };
+        levels = record {
+          sized = refl;
+          word = λ x k h g. same-or x 1
+              (λ q. omega (arith, ap (λ z. bit (getD (set (replicate 66 0) 1 all) z 0) k) q, ap (λ z. bit z k) A, bit-low 64 k g))
+              (λ m.
+              omega (arith, ap (λ z. bit z k) (getD-set-other (replicate 66 0) 1 x all 0 m ∙ getD-replicate 66 x 0 0 h), bit-empty k));
+        };
+        prices = refl;
+        price = λ i h. omega (arith, getD-replicate {A = ℕ} 64 i 0 0 (omega (arith, S .few)), bit-empty i);
+        small = λ i h. omega arith;
+      }
+
+  -- a round: s items are exposed
+  module _ (plan : (q : List ℕ) × IsPlan w q) {t y l o p : List ℕ} {f e d r : ℕ} (K : Rounds w c t y l o p f e d r) (some : e ≢ 0) {s : ℕ}
+      (es : s ≡ ones e) where
+    grown : Duals w c (λ i. K .u i + bit (bitOr e (holders o d)) i) (λ k. K .v k + bit d k) (r + s)
+    grown = raised S (K .ready .duals) (K .tight) (K .filled) some es
+
+    -- the number grows, and not beyond the number of items
+    pub number-le : r + s ≤ length w
+    number-le = omega (arith, bound S grown (plan .0) (plan .1), callouts-le c (plan .0), S .same)
+
+    pub number-less : length w - (r + s) < length w - r
+    number-less = let z = exposed-some S (K .ready .duals) (K .tight) (K .filled) some in omega (arith, number-le)
+
+    pub raise-ready : {l′ : List ℕ} {up : ℕ} → Lifted l d l′ → up ≡ bitOr e (holders o d)
+        → Ready w c l′ y up (λ i. K .u i + bit (bitOr e (holders o d)) i) (λ k. K .v k + bit d k) (r + s)
+    raise-ready L E =
+        record {
+          duals = grown;
+          levels = L (K .v) (K .ready .levels);
+          prices = K .ready .prices;
+          price = λ i h. omega (arith, K .ready .price i h, bit-empty i, ap (λ z. bit z i) E);
+          small = λ i h. omega (arith, grown .cap i h, number-le, S .few);
+        }

@@ -1,0 +1,36 @@
+-- `min_cost::lift` meets its contract: a turn makes one level. Assumes nothing.
+use Prim.Native.Nat.{_-_}
+use native.Mathlib.Omega.{arith}
+use borrow.Author.Needs.{needs}
+use Rattle.min_cost.proofs.Levels.{Lifting, lifting-start, lifting-turn, lifting-end}
+use Rattle.min_cost.proofs.lift.Statement.{statement}
+use Rattle.min_cost.proofs.lift.Tie as tie
+
+abbrev Inv-loop : tie.InvT-loop
+Inv-loop level₀ dead below₀ x₀ level below x = Lifting level₀ dead level below x
+
+abbrev μ-loop : tie.MeasureT-loop
+μ-loop level₀ dead below₀ x₀ level below x = 66 - x
+
+loop-again : tie.Need-loop-again Inv-loop μ-loop
+loop-again c = let l = c .before .before .before in lifting-turn (l .loop .inv) (c .before .before .loop-test .taken) (c .select .ensures)
+
+returns : tie.Need-returns Inv-loop μ-loop
+returns c = lifting-end (search needs) (c .before .loop .inv) (omega arith)
+
+pub lift-spec : {M : Type 1} → statement M
+lift-spec =
+    tie.close
+    (tie.spec
+    Inv-loop
+    μ-loop
+    (λ c. lifting-start (c .pre))
+    (λ c. omega arith)
+    (λ c. omega (arith, c .before .loop .inv .sweep .sized))
+    (λ c κs. search needs)
+    (λ c. omega arith)
+    (λ c. omega (arith, c .before .before .before .loop .inv .sweep .sized))
+    (λ c. omega arith)
+    (λ c. omega arith)
+    loop-again
+    returns)

@@ -1,0 +1,118 @@
+// The fewest callouts: the minimum-cost perfect matching with costs 0 and 1, by duals, and among these the first in dictionary
+// order. The duals are u[i] = price[i] + 1 of the items and v[j] of the slots, all 1 at first, with u[i] <= cost(i, j) + v[j] on
+// every open cell, cost 1 for a callout, else 0; a cell is tight where both sides are equal. level[x] are the slots with v = x.
+ghost use mathlib.Core.Path.{_≡_};
+ghost use mathlib.Core.List.{List};
+ghost use Prim.Native.Nat.{ℕ};
+ghost use lib.ListN.{length};
+ghost use Rattle.model.specs.Plans.{IsPlan};
+ghost use Rattle.model.specs.Fewest.{fewest, fewestPlans};
+ghost use Rattle.model.specs.Answers.{fewestOf};
+ghost use Rattle.min_cost.specs.Dual.{Square, Lifted, Repriceable, Repriced, Cheapest};
+use model::Plan;
+use model::PlanAnswer;
+
+// A plan with the fewest callouts, and their number.
+struct Cheap {
+    slots: [u8; 64],
+    number: usize,
+}
+
+// v of the slots of `dead` grows by 1: a level gives them up, and gets those of the level below.
+fn lift(level: &mut [u64; 66], dead: u64)
+    requires { ⌜ length (now level) ≡ 66 ⌝ }
+    ensures { λ _. ⌜ Lifted (now (level .entry)) dead (now (level .exit)) ⌝ }
+{
+    let mut below: u64 = 0;
+    let mut x = 0;
+    while x < 66 {
+        let here = level[x];
+        level[x] = words::select(here, dead, below);
+        below = here;
+        x += 1;
+    }
+}
+
+// u of the items of `up` grows by 1, and each item's word of tight cells is made anew.
+fn reprice(
+    opens: &[u64],
+    callouts: &[u64],
+    level: &[u64; 66],
+    price: &mut [usize; 64],
+    tight: &mut [u64],
+    up: u64,
+)
+    requires { ⌜ Repriceable (now opens) (now callouts) (now level) (now price) (now tight) up ⌝ }
+    ensures { λ _. ⌜ Repriced (now (opens .entry)) (now (callouts .entry)) (now (level .entry)) (now (price .entry)) up (now (price .exit)) (now (tight .exit)) ⌝ }
+{
+    let mut i = 0;
+    while i < opens.len() {
+        let p = price[i] + words::bit(up, i);
+        price[i] = p;
+        tight[i] = opens[i] & words::select(level[p + 1], callouts[i], level[p]);
+        i += 1;
+    }
+}
+
+// The first of the plans with the fewest callouts, of a rota that has a plan. `tight` has a word for each item.
+fn cheapest(opens: &[u64], callouts: &[u64], tight: &mut [u64]) -> Cheap
+    requires { ⌜ Square (now opens) (now callouts) × ((q : List ℕ) × IsPlan (now opens) q) × (length (now tight) ≡ length (now opens)) ⌝ }
+    ensures { λ r. ⌜ Cheapest (now (opens .entry)) (now (callouts .entry)) (r .slots) (r .number) ⌝ }
+{
+    let all = words::low(64);
+    let mut owner = [0u8; 64];
+    let mut slot = [0u8; 64];
+    let mut price = [0usize; 64];
+    let mut level = [0u64; 66];
+    level[1] = all;
+    reprice(opens, callouts, &level, &mut price, tight, 0);
+    let mut m = maximum::fill(tight, &mut owner, &mut slot, all, words::low(opens.len()));
+    let mut number = 0;
+    while m.exposed != 0 {
+        number += words::size(m.exposed);
+        let up = maximum::deficient_set(&owner, m.exposed, m.dead);
+        lift(&mut level, m.dead);
+        reprice(opens, callouts, &level, &mut price, tight, up);
+        m = maximum::fill(tight, &mut owner, &mut slot, m.free, m.exposed);
+    }
+    least::settle(tight, &mut owner, &mut slot, m.free, 0, 0);
+    Cheap {
+        slots: slot,
+        number: number,
+    }
+}
+
+// The first of the plans with the fewest callouts; 9 without a plan, or 11 if that number is above the cap.
+pub fn fewest_plan(opens: &[u64], callouts: &[u64], cap: u32) -> PlanAnswer
+    requires { ⌜ Square (now opens) (now callouts) ⌝ }
+    ensures { λ r. ⌜ r ≡ fewestOf (now (opens .entry)) cap (fewest 64 (now (opens .entry)) (now (callouts .entry))) (fewestPlans 64 (now (opens .entry)) (now (callouts .entry))) ⌝ }
+{
+    let n = opens.len();
+    let mut owner = [0u8; 64];
+    let mut slot = [0u8; 64];
+    let m = maximum::fill(opens, &mut owner, &mut slot, words::low(64), words::low(n));
+    let exposed = m.exposed;
+    if exposed != 0 {
+        return maximum::no_plan(&owner, exposed, m.dead);
+    }
+    let mut tight = [0u64; 64];
+    let r = cheapest(opens, callouts, &mut tight[..n]);
+    let number = r.number as u32;
+    if number <= cap {
+        let slots = r.slots;
+        return PlanAnswer {
+            code: 0,
+            shortage: 0,
+            items: 0,
+            callouts: number,
+            plan: Plan { slots: slots },
+        };
+    }
+    PlanAnswer {
+        code: 11,
+        shortage: 0,
+        items: 0,
+        callouts: number,
+        plan: Plan { slots: [255u8; 64] },
+    }
+}

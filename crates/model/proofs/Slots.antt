@@ -1,0 +1,57 @@
+-- The searches speak of 64 slots, the calls of m: of an accepted rota with at most 64 slots the plans are the same, and so are the
+-- answers. Assumes nothing.
+use mathlib.Core.Path.{_≡_, sym, ap, ap₂, _∙_}
+use mathlib.Core.Bool.{cond}
+use mathlib.Core.List.{List, map}
+use Prim.Native.Nat.{ℕ, _^_, _<_, _≤_}
+use native.Mathlib.Nat.{lt-of-lt-of-le}
+use lib.Pow.{pow-mono}
+use lib.Dec.{eqb}
+use lib.ListN.{length, getD}
+use Rattle.model.specs.declared.Plan.{Plan}
+use Rattle.model.specs.Lists.{keep, any, same, before, least}
+use Rattle.model.specs.Sets.{union}
+use Rattle.model.specs.Rota.{tableCode}
+use Rattle.model.specs.Plans.{plans, isPlan, plansAfter}
+use Rattle.model.specs.Fewest.{calloutsOf, fewest, fewestPlans}
+use Rattle.model.specs.Allowed.{allowedWord}
+use Rattle.model.specs.Answers.{refused, unless, firstOf, firstAnswer, nextOf, nextAnswer, fewestOf, fewestAnswer}
+use Rattle.model.proofs.Order.{rising-same}
+use Rattle.model.proofs.Plans.{plans-rise, plan-from, plan-into}
+use Rattle.model.proofs.Laws.{few, range}
+
+module _ (n m : ℕ) (opens callouts : List ℕ) (ok : tableCode n m opens callouts ≡ 0) (slots : m ≤ 64) where
+  wide : (i : ℕ) → i < length opens → getD opens i 0 < 2 ^ 64
+  wide i h = lt-of-lt-of-le (range n m opens callouts ok i h) (pow-mono slots)
+
+  pub plans-wide : plans 64 opens ≡ plans m opens
+  plans-wide =
+      let f = few n m opens callouts ok in
+      let r = range n m opens callouts ok in
+      rising-same (plans 64 opens) (plans m opens) (plans-rise 64 opens) (plans-rise m opens)
+      (λ p h. plan-into m opens f r p (plan-from 64 opens f wide p h))
+      (λ p h. plan-into 64 opens f wide p (plan-from m opens f r p h))
+
+  pub first-wide : firstOf opens (plans 64 opens) ≡ firstAnswer n m opens callouts
+  unfolding firstAnswer unless
+  first-wide = ap (firstOf opens) plans-wide ∙ ap (λ c. unless c (firstOf opens (plans m opens))) (sym ok)
+
+  pub next-wide : (g : Plan) → cond (isPlan 64 opens (g .slots)) (nextOf (plansAfter 64 opens (g .slots))) (refused 8) ≡ nextAnswer n m opens callouts g
+  unfolding nextAnswer unless isPlan plansAfter
+  next-wide g =
+      ap (λ l. cond (any (same (g .slots)) l) (nextOf (keep (before (g .slots)) l)) (refused 8)) plans-wide
+      ∙ ap (λ c. unless c (cond (isPlan m opens (g .slots)) (nextOf (plansAfter m opens (g .slots))) (refused 8))) (sym ok)
+
+  pub fewest-number-wide : fewest 64 opens callouts ≡ fewest m opens callouts
+  unfolding fewest
+  fewest-number-wide = ap (λ l. least (map (calloutsOf callouts) l)) plans-wide
+
+  pub fewest-wide : (cap : ℕ) → fewestOf opens cap (fewest 64 opens callouts) (fewestPlans 64 opens callouts) ≡ fewestAnswer n m opens callouts cap
+  unfolding fewestAnswer unless fewestPlans
+  fewest-wide cap =
+      ap₂ (λ k l. fewestOf opens cap k (keep (λ p. eqb (calloutsOf callouts p) k) l)) fewest-number-wide plans-wide
+      ∙ ap (λ c. unless c (fewestOf opens cap (fewest m opens callouts) (fewestPlans m opens callouts))) (sym ok)
+
+  pub allowed-wide : (i : ℕ) → allowedWord 64 opens i ≡ allowedWord m opens i
+  unfolding allowedWord
+  allowed-wide i = ap (λ l. union (map (λ p. 2 ^ getD p i 0) l)) plans-wide

@@ -1,0 +1,37 @@
+-- An enumerator's answer and step, from the answer of the first or the next plan. Assumes nothing.
+use mathlib.Core.Path.{_≡_, refl, sym, ap, ap₂, _∙_}
+use mathlib.Core.Logic.{_≢_}
+use mathlib.Core.Bool.{Bool, true, false, cond}
+use mathlib.Core.List.{List}
+use Prim.Native.Nat.{ℕ}
+use borrow.Author.Tests.{eq-eqb, ne-eqb}
+use lib.Dec.{eqb}
+use Rattle.model.specs.declared.Plan.{Plan}
+use Rattle.model.specs.declared.PlanAnswer.{PlanAnswer}
+use Rattle.model.specs.declared.Enumerator.{Enumerator}
+use Rattle.model.specs.Answers.{firstAnswer, nextAnswer}
+use Rattle.model.specs.Enumerator.{enumeratorAnswer, stored, enumeratorAfter}
+use Rattle.rota.specs.declared.Stepped.{Stepped}
+use Rattle.rota.specs.Step.{stepOf}
+
+module _ (e : Enumerator) (n m : ℕ) (opens callouts : List ℕ) where
+  pub started-answer : e .started ≡ true → nextAnswer n m opens callouts (e .plan) ≡ enumeratorAnswer e n m opens callouts
+  unfolding enumeratorAnswer
+  started-answer s = sym (ap (λ b. cond b (nextAnswer n m opens callouts (e .plan)) (firstAnswer n m opens callouts)) s)
+
+  pub fresh-answer : e .started ≡ false → firstAnswer n m opens callouts ≡ enumeratorAnswer e n m opens callouts
+  unfolding enumeratorAnswer
+  fresh-answer s = sym (ap (λ b. cond b (nextAnswer n m opens callouts (e .plan)) (firstAnswer n m opens callouts)) s)
+
+  module _ (a : PlanAnswer) (q : a ≡ enumeratorAnswer e n m opens callouts) where
+    stepped : (e′ : Enumerator) → e′ ≡ stored e a → _≡_ {A = Stepped} (record { enumerator = e′; answer = a }) (stepOf e n m opens callouts)
+    unfolding stepOf enumeratorAfter
+    stepped e′ s = ap₂ (λ (x : Enumerator) (y : PlanAnswer). record { enumerator = x; answer = y }) (s ∙ ap (stored e) q) q
+
+    pub step-refused : a .code ≢ 0 → _≡_ {A = Stepped} (record { enumerator = e; answer = a }) (stepOf e n m opens callouts)
+    unfolding stored
+    step-refused d = stepped e (sym (ap (λ b. cond b (record { started = true; plan = a .plan }) e) (ne-eqb (a .code) 0 d)))
+
+    pub step-done : a .code ≡ 0 → _≡_ {A = Stepped} (record { enumerator = record { started = true; plan = a .plan }; answer = a }) (stepOf e n m opens callouts)
+    unfolding stored
+    step-done z = stepped _ (sym (ap (λ b. cond b (record { started = true; plan = a .plan }) e) (eq-eqb (a .code) 0 z)))

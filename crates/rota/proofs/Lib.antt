@@ -1,0 +1,8 @@
+pub mod Calls
+pub mod Counting
+pub mod Enumerating
+pub mod Rates
+pub mod Demand3
+pub mod OnFiles
+pub mod Buffers
+pub mod Pricing

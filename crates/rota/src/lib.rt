@@ -1,0 +1,292 @@
+// The public calls, on tables of words and on the bytes of a rota file. None has a `requires`. Each answer, and each buffer lent, is
+// one function of what the call got: model's specs/Answers and specs/Enumerator.
+mod buffer;
+mod refusals;
+mod tariff;
+
+ghost use mathlib.Core.Path.{_≡_};
+ghost use lib.ListN.{length, take};
+ghost use Rattle.model.specs.Answers.{firstAnswer, nextAnswer, fewestAnswer, allowedCode, allowedAfter, countAnswer, countTally, gradeAnswer, gradeTally, priceAnswer, priceTally, readAnswer, readOpens, readCallouts, writeAnswer, writeFile, fileFirst, fileNext, fileFewest, bufferAfter};
+ghost use Rattle.model.specs.Enumerator.{enumeratorAnswer, enumeratorAfter};
+ghost use Rattle.rota.specs.Step.{stepOf};
+use model::CountAnswer;
+use model::Enumerator;
+use model::GradeAnswer;
+use model::Plan;
+use model::PlanAnswer;
+use model::PriceAnswer;
+use model::ReadAnswer;
+use model::WriteAnswer;
+
+// The first plan of a rota of n items.
+pub fn first_plan(n: usize, opens: &[u64], callouts: &[u64]) -> PlanAnswer
+    ensures { λ r. ⌜ r ≡ firstAnswer n n (now (opens .entry)) (now (callouts .entry)) ⌝ }
+{
+    let code = acceptance::table_code(n, opens, callouts);
+    if code != 0 {
+        return acceptance::refusal(code);
+    }
+    least::first_plan(opens)
+}
+
+// The plan after the given one.
+pub fn next_plan(n: usize, opens: &[u64], callouts: &[u64], given: Plan) -> PlanAnswer
+    ensures { λ r. ⌜ r ≡ nextAnswer n n (now (opens .entry)) (now (callouts .entry)) given ⌝ }
+{
+    let code = acceptance::table_code(n, opens, callouts);
+    if code != 0 {
+        return acceptance::refusal(code);
+    }
+    next::next_plan(opens, given)
+}
+
+// The first of the plans with the fewest callouts, if these are at most `cap`.
+pub fn fewest_callouts(n: usize, opens: &[u64], callouts: &[u64], cap: u32) -> PlanAnswer
+    ensures { λ r. ⌜ r ≡ fewestAnswer n n (now (opens .entry)) (now (callouts .entry)) cap ⌝ }
+{
+    let code = acceptance::table_code(n, opens, callouts);
+    if code != 0 {
+        return acceptance::refusal(code);
+    }
+    min_cost::fewest_plan(opens, callouts, cap)
+}
+
+// An enumerator's step: the enumerator afterwards, and the answer.
+pub struct Stepped {
+    pub enumerator: Enumerator,
+    pub answer: PlanAnswer,
+}
+
+// What an enumerator answers: fresh the first plan, started the one after the plan that it holds.
+fn enumerate(e: Enumerator, n: usize, opens: &[u64], callouts: &[u64]) -> PlanAnswer
+    ensures { λ r. ⌜ r ≡ enumeratorAnswer e n n (now (opens .entry)) (now (callouts .entry)) ⌝ }
+{
+    if e.started {
+        let held = e.plan;
+        return next_plan(n, opens, callouts, held);
+    }
+    first_plan(n, opens, callouts)
+}
+
+// One step of an enumerator, by value.
+pub fn step(e: Enumerator, n: usize, opens: &[u64], callouts: &[u64]) -> Stepped
+    ensures { λ r. ⌜ r ≡ stepOf e n n (now (opens .entry)) (now (callouts .entry)) ⌝ }
+{
+    let a = enumerate(e, n, opens, callouts);
+    let code = a.code;
+    if code != 0 {
+        return Stepped {
+            enumerator: e,
+            answer: a,
+        };
+    }
+    let p = a.plan;
+    Stepped {
+        enumerator: Enumerator {
+            started: true,
+            plan: p,
+        },
+        answer: a,
+    }
+}
+
+// The enumerator's next plan. A refusal leaves the enumerator as it was.
+pub fn list_plan(
+    enumerator: &mut Enumerator,
+    n: usize,
+    opens: &[u64],
+    callouts: &[u64],
+) -> PlanAnswer
+    ensures { λ r. ⌜ (r ≡ enumeratorAnswer (now (enumerator .entry)) n n (now (opens .entry)) (now (callouts .entry)))
+        × (now (enumerator .exit) ≡ enumeratorAfter (now (enumerator .entry)) n n (now (opens .entry)) (now (callouts .entry))) ⌝ }
+{
+    let s = step(*enumerator, n, opens, callouts);
+    *enumerator = s.enumerator;
+    s.answer
+}
+
+// Writes the n words of the usable table.
+pub fn usable_slots(n: usize, opens: &[u64], callouts: &[u64], usable: &mut [u64]) -> u32
+    ensures code { λ r. ⌜ r ≡ allowedCode n n (now (opens .entry)) (now (callouts .entry)) (length (now (usable .entry))) ⌝ }
+    ensures usable { λ _. ⌜ now (usable .exit) ≡ allowedAfter n n (now (opens .entry)) (now (callouts .entry)) (now (usable .entry)) ⌝ }
+{
+    let code = acceptance::table_code(n, opens, callouts);
+    if code != 0 {
+        return code;
+    }
+    if usable.len() < n {
+        return 15;
+    }
+    let allowed = components::allowed_slots(opens);
+    rota_file::reading::store(&allowed[..n], usable);
+    0
+}
+
+// Counts the complete plans, in a tally of at least 2^n words.
+pub fn count_plans(n: usize, opens: &[u64], callouts: &[u64], tally: &mut [u64]) -> CountAnswer
+    ensures answer { λ r. ⌜ r ≡ countAnswer n n (now (opens .entry)) (now (callouts .entry)) (length (now (tally .entry))) ⌝ }
+    ensures tally { λ _. ⌜ now (tally .exit) ≡ countTally n n (now (opens .entry)) (now (callouts .entry)) (now (tally .entry)) ⌝ }
+{
+    let code = refusals::count_code(n, opens, callouts, tally.len());
+    if code != 0 {
+        return CountAnswer { code, count: 0 };
+    }
+    let count = permanent::count_subsets(opens, tally);
+    CountAnswer { code: 0, count }
+}
+
+// The grade. That a plan exists is known before the tally is touched.
+pub fn grade(n: usize, opens: &[u64], callouts: &[u64], tally: &mut [u64]) -> GradeAnswer
+    ensures answer { λ r. ⌜ r ≡ gradeAnswer n n (now (opens .entry)) (now (callouts .entry)) (length (now (tally .entry))) ⌝ }
+    ensures tally { λ _. ⌜ now (tally .exit) ≡ gradeTally n n (now (opens .entry)) (now (callouts .entry)) (now (tally .entry)) ⌝ }
+{
+    let code = refusals::count_code(n, opens, callouts, tally.len());
+    if code != 0 {
+        return GradeAnswer {
+            code,
+            grade: 0,
+            shortage: 0,
+            items: 0,
+        };
+    }
+    let first = least::first_plan(opens);
+    if first.code != 0 {
+        return GradeAnswer {
+            code: first.code,
+            grade: 0,
+            shortage: first.shortage,
+            items: first.items,
+        };
+    }
+    let total = permanent::count_subsets(opens, tally);
+    GradeAnswer {
+        code: 0,
+        grade: tariff::grade_of(total, tariff::some_forced(opens)),
+        shortage: 0,
+        items: 0,
+    }
+}
+
+// The monthly price. That a plan exists is known before the tally is touched; no plan has more than 64 callouts, so nothing is over
+// the cap.
+pub fn monthly_price(
+    n: usize,
+    opens: &[u64],
+    callouts: &[u64],
+    vehicles: u64,
+    tally: &mut [u64],
+) -> PriceAnswer
+    ensures answer { λ r. ⌜ r ≡ priceAnswer n n (now (opens .entry)) (now (callouts .entry)) vehicles (length (now (tally .entry))) ⌝ }
+    ensures tally { λ _. ⌜ now (tally .exit) ≡ priceTally n n (now (opens .entry)) (now (callouts .entry)) vehicles (now (tally .entry)) ⌝ }
+{
+    let code = refusals::price_code(n, opens, callouts, tally.len(), vehicles);
+    if code != 0 {
+        return PriceAnswer {
+            code,
+            shortage: 0,
+            items: 0,
+            cents: 0,
+        };
+    }
+    let fewest = min_cost::fewest_plan(opens, callouts, 64);
+    if fewest.code != 0 {
+        return PriceAnswer {
+            code: fewest.code,
+            shortage: fewest.shortage,
+            items: fewest.items,
+            cents: 0,
+        };
+    }
+    let total = permanent::count_subsets(opens, tally);
+    let grade = tariff::grade_of(total, tariff::some_forced(opens));
+    PriceAnswer {
+        code: 0,
+        shortage: 0,
+        items: 0,
+        cents: tariff::price(grade, vehicles, fewest.callouts),
+    }
+}
+
+// Reads a file into two lent tables.
+pub fn read_file(file: &[u8], opens: &mut [u64], callouts: &mut [u64]) -> ReadAnswer
+    ensures answer { λ r. ⌜ r ≡ readAnswer (now (file .entry)) (length (now (opens .entry))) (length (now (callouts .entry))) ⌝ }
+    ensures opens { λ _. ⌜ now (opens .exit) ≡ readOpens (now (file .entry)) (now (opens .entry)) (now (callouts .entry)) ⌝ }
+    ensures callouts { λ _. ⌜ now (callouts .exit) ≡ readCallouts (now (file .entry)) (now (opens .entry)) (now (callouts .entry)) ⌝ }
+{
+    rota_file::read_file(file, opens, callouts)
+}
+
+// Writes the file of a rota of n items into a lent buffer.
+pub fn write_file(n: usize, opens: &[u64], callouts: &[u64], file: &mut [u8]) -> WriteAnswer
+    ensures answer { λ r. ⌜ r ≡ writeAnswer n n (now (opens .entry)) (now (callouts .entry)) (length (now (file .entry))) ⌝ }
+    ensures file { λ _. ⌜ now (file .exit) ≡ writeFile n n (now (opens .entry)) (now (callouts .entry)) (now (file .entry)) ⌝ }
+{
+    rota_file::write_file(n, opens, callouts, file)
+}
+
+// The first plan of the rota in a file, into a plan buffer.
+pub fn file_first_plan(file: &[u8], plan: &mut [u8]) -> u32
+    ensures code { λ r. ⌜ r ≡ fileFirst (now (file .entry)) (length (now (plan .entry))) .code ⌝ }
+    ensures plan { λ _. ⌜ now (plan .exit) ≡ bufferAfter (fileFirst (now (file .entry)) (length (now (plan .entry)))) (now (plan .entry)) ⌝ }
+{
+    let mut opens = [0u64; 64];
+    let mut callouts = [0u64; 64];
+    let read = rota_file::read_file(file, &mut opens, &mut callouts);
+    if read.code != 0 {
+        return read.code;
+    }
+    if plan.len() < 64 {
+        return 15;
+    }
+    let n = read.n as usize;
+    let a = least::first_plan(&opens[..n]);
+    let code = a.code;
+    let p = a.plan;
+    let slots = p.slots;
+    buffer::store_plan(code, slots, plan)
+}
+
+// The plan after the one in the buffer, into the buffer.
+pub fn file_next_plan(file: &[u8], plan: &mut [u8]) -> u32
+    ensures code { λ r. ⌜ r ≡ fileNext (now (file .entry)) (length (now (plan .entry))) (record { slots = take 64 (now (plan .entry)) }) .code ⌝ }
+    ensures plan { λ _. ⌜ now (plan .exit) ≡ bufferAfter (fileNext (now (file .entry)) (length (now (plan .entry))) (record { slots = take 64 (now (plan .entry)) })) (now (plan .entry)) ⌝ }
+{
+    let mut opens = [0u64; 64];
+    let mut callouts = [0u64; 64];
+    let read = rota_file::read_file(file, &mut opens, &mut callouts);
+    if read.code != 0 {
+        return read.code;
+    }
+    if plan.len() < 64 {
+        return 15;
+    }
+    let n = read.n as usize;
+    let given = buffer::plan_in(plan);
+    let a = next::next_plan(&opens[..n], given);
+    let code = a.code;
+    let p = a.plan;
+    let slots = p.slots;
+    buffer::store_plan(code, slots, plan)
+}
+
+// The first plan with the fewest callouts of the rota in a file, if these are at most `cap`, into a plan buffer.
+pub fn file_fewest_callouts(file: &[u8], plan: &mut [u8], cap: u32) -> u32
+    ensures code { λ r. ⌜ r ≡ fileFewest (now (file .entry)) (length (now (plan .entry))) cap .code ⌝ }
+    ensures plan { λ _. ⌜ now (plan .exit) ≡ bufferAfter (fileFewest (now (file .entry)) (length (now (plan .entry))) cap) (now (plan .entry)) ⌝ }
+{
+    let mut opens = [0u64; 64];
+    let mut callouts = [0u64; 64];
+    let read = rota_file::read_file(file, &mut opens, &mut callouts);
+    if read.code != 0 {
+        return read.code;
+    }
+    if plan.len() < 64 {
+        return 15;
+    }
+    let n = read.n as usize;
+    let a = min_cost::fewest_plan(&opens[..n], &callouts[..n], cap);
+    let code = a.code;
+    let p = a.plan;
+    let slots = p.slots;
+    buffer::store_plan(code, slots, plan)
+}

@@ -1,0 +1,112 @@
+//! Every call over one rota.
+
+use crate::checks::KnownFile;
+use crate::inputs::given;
+use crate::random::Random;
+use crate::reference::answers::GREATEST_COUNTED;
+use crate::reference::rota_file::{blocks_for, BLOCK};
+use crate::reference::Known;
+use crate::session::{Outcome, Session};
+
+/// Fleet sizes at the bounds of the rules, and beyond 32 bits.
+pub const FLEETS: [u64; 14] = [0, 1, 2, 49, 50, 51, 499, 500, 501, 9_999, 10_000, 10_001, (1 << 32) + 1, u64::MAX];
+
+/// Up to here every rota gets its tally; larger ones have a subject of their own.
+const SMALL_TALLY: usize = 10;
+
+/// Every call over an accepted rota.
+pub fn every_call(session: &mut Session, known: &Known, random: &mut Random) -> Outcome {
+    let plans: Vec<_> = (0..given::KINDS).map(|kind| given::plan(kind, known, random)).collect();
+    let fewest = known.fewest().map_or(0, |(number, _)| number);
+    let caps = [fewest.wrapping_sub(1), fewest, fewest + 1, 0, u32::MAX, random.below(65) as u32];
+    calls_on_tables(session, known, &plans, &caps, random)?;
+    calls_on_file(session, &KnownFile::of(known), &plans, &caps, random)
+}
+
+/// Every call over tables, which may be refused.
+pub fn calls_on_tables(
+    session: &mut Session,
+    known: &Known,
+    plans: &[[u8; 64]],
+    caps: &[u32],
+    random: &mut Random,
+) -> Outcome {
+    session.first_plan(known)?;
+    for plan in plans {
+        session.next_plan(known, plan)?;
+        session.list_plan(known, true, plan)?;
+    }
+    session.list_plan(known, false, &given::random_bytes(random))?;
+    session.list_plan(known, false, &plans[0])?;
+    for &cap in caps {
+        session.fewest_callouts(known, cap)?;
+    }
+    for words in lengths(known.n().min(64), random) {
+        session.usable_slots(known, words)?;
+    }
+    for bytes in lengths(BLOCK * blocks_for(known.n()), random) {
+        session.write_file(known, bytes)?;
+    }
+    calls_on_tally(session, known, random)
+}
+
+/// One too short, none at all, exact, one too long, longer.
+pub fn lengths(needed: usize, random: &mut Random) -> [usize; 5] {
+    [needed.saturating_sub(1), 0, needed, needed + 1, needed + 2 + random.below(100)]
+}
+
+fn calls_on_tally(session: &mut Session, known: &Known, random: &mut Random) -> Outcome {
+    // A tally that would be large is lent too short here.
+    let tallies = match known.n() {
+        n if n <= SMALL_TALLY => lengths(1 << n, random),
+        n if n <= GREATEST_COUNTED => [0, 1, n, 1 << SMALL_TALLY, random.below(1 << SMALL_TALLY)],
+        _ => [0, 1, 64, 1 << SMALL_TALLY, random.below(1 << SMALL_TALLY)],
+    };
+    for words in tallies {
+        session.count_plans(known, words)?;
+        session.grade(known, words)?;
+        for _ in 0..2 {
+            let vehicles = fleet(random);
+            session.monthly_price(known, vehicles, words)?;
+        }
+    }
+    Ok(())
+}
+
+/// A fleet size at a bound, or any that is accepted.
+pub fn fleet(random: &mut Random) -> u64 {
+    match random.below(2) {
+        0 => random.pick(&FLEETS),
+        _ => 1 + random.below(10_000) as u64,
+    }
+}
+
+/// The lengths of plan buffers.
+pub const PLAN_ROOMS: [usize; 5] = [64, 0, 63, 65, 100];
+
+/// Every call over a file, which may be refused.
+pub fn calls_on_file(
+    session: &mut Session,
+    file: &KnownFile,
+    plans: &[[u8; 64]],
+    caps: &[u32],
+    random: &mut Random,
+) -> Outcome {
+    let n = file.known.n();
+    let more = n + 1 + random.below(100);
+    for room in [[n, n], [64, 64], [more, n], [n, more], [n.saturating_sub(1), n], [n, n.saturating_sub(1)], [0, 0]] {
+        session.read_file(file, room)?;
+    }
+    for room in PLAN_ROOMS {
+        session.file_first_plan(file, &given::random_bytes(random), room)?;
+    }
+    for (turn, plan) in plans.iter().enumerate() {
+        session.file_next_plan(file, plan, 64)?;
+        session.file_next_plan(file, plan, PLAN_ROOMS[1 + turn % 4])?;
+    }
+    for (turn, &cap) in caps.iter().enumerate() {
+        session.file_fewest_callouts(file, &given::random_bytes(random), 64, cap)?;
+        session.file_fewest_callouts(file, &given::random_bytes(random), PLAN_ROOMS[1 + turn % 4], cap)?;
+    }
+    Ok(())
+}

@@ -1,0 +1,41 @@
+//! What is tried, subject by subject. Each has a random stream of its own.
+
+mod battery;
+mod counts;
+mod damage;
+mod files;
+mod listings;
+mod prices;
+mod refusals;
+mod sizes;
+mod small;
+mod worked;
+
+use crate::random::Random;
+use crate::session::{Outcome, Session};
+
+type Subject = fn(&mut Session, &mut Random) -> Outcome;
+
+const SUBJECTS: [(&str, Subject); 9] = [
+    ("worked", worked::run),
+    ("refusals", refusals::run),
+    ("small", small::run),
+    ("listings", listings::run),
+    ("prices", prices::run),
+    ("files", files::run),
+    ("damage", damage::run),
+    ("sizes", sizes::run),
+    ("counts", counts::run),
+];
+
+/// All subjects once.
+pub fn run(session: &mut Session, seed: u64) -> Outcome {
+    SUBJECTS.iter().try_for_each(|(name, _)| run_one(session, seed, name))
+}
+
+/// One subject by its name.
+pub fn run_one(session: &mut Session, seed: u64, name: &str) -> Outcome {
+    let (_, subject) = SUBJECTS.iter().find(|(other, _)| *other == name).expect("a subject");
+    session.random = Random::stream(seed, &format!("{name}, lent buffers"));
+    subject(session, &mut Random::stream(seed, name))
+}

@@ -1,0 +1,66 @@
+//! Refused tables and files: every set of faults, over small and large rotas; the one tested first is given.
+
+use super::battery;
+use crate::checks::KnownFile;
+use crate::inputs::{damaged, given, refused};
+use crate::random::Random;
+use crate::reference::Known;
+use crate::rota::plan_of;
+use crate::session::{Outcome, Session};
+
+const ROUNDS: usize = 60;
+
+pub fn run(session: &mut Session, random: &mut Random) -> Outcome {
+    for round in 0..ROUNDS {
+        for faults in 1..16 {
+            let n = number_of_items(round, random);
+            refused_tables(session, n, faults, random)?;
+        }
+        for faults in 1..32 {
+            let n = number_of_items(round, random);
+            refused_file(session, n, faults << 2, random)?;
+        }
+    }
+    wrong_lengths(session, random)
+}
+
+/// Small ones first, then all sizes, and those beside which a file has a block more.
+fn number_of_items(round: usize, random: &mut Random) -> usize {
+    match round {
+        0 => 1 + random.below(4),
+        1 => random.pick(&[20, 21, 31, 32, 62, 63, 64]),
+        _ => 1 + random.below(64),
+    }
+}
+
+fn plans(random: &mut Random) -> Vec<[u8; 64]> {
+    vec![[0; 64], plan_of(&random.permutation(64)), given::random_bytes(random)]
+}
+
+fn refused_tables(session: &mut Session, n: usize, faults: usize, random: &mut Random) -> Outcome {
+    let known = Known::new(refused::tables(n, faults, random));
+    let plans = plans(random);
+    battery::calls_on_tables(session, &known, &plans, &[0, 64], random)
+}
+
+fn refused_file(session: &mut Session, n: usize, faults: usize, random: &mut Random) -> Outcome {
+    let file = KnownFile::new(damaged::file(n, faults, random));
+    let plans = plans(random);
+    battery::calls_on_file(session, &file, &plans, &[0, 64], random)
+}
+
+/// Both tables of every length beside n.
+fn wrong_lengths(session: &mut Session, random: &mut Random) -> Outcome {
+    for n in [1, 2, 20, 63, 64] {
+        for length in [0, 1, n - 1, n, n + 1, 64, 65, 1_000] {
+            for other in [0, n - 1, n, n + 1, 64, 65] {
+                let mut tables = refused::tables(n, 0, random);
+                tables.opens.resize(length, 1);
+                tables.callouts.resize(other, 0);
+                let plans = plans(random);
+                battery::calls_on_tables(session, &Known::new(tables), &plans, &[0], random)?;
+            }
+        }
+    }
+    Ok(())
+}

@@ -1,0 +1,171 @@
+/*
+ * Every call once or more on T (open words 3, 7, 6; callout words 1, 0, 4), with the results of document 01. The same text is
+ * compiled as C and as C++.
+ */
+#include "rota.h"
+
+#include "layout.h"
+
+#include <stdio.h>
+#include <stdlib.h>
+#include <string.h>
+
+static const uint64_t OPENS[3] = {3, 7, 6};
+static const uint64_t CALLOUTS[3] = {1, 0, 4};
+
+#define T 3, OPENS, 3, CALLOUTS, 3
+
+static void expect(bool holds, const char *what, int line)
+{
+    if (!holds) {
+        fprintf(stderr, "header.c:%d: not so: %s\n", line, what);
+        exit(1);
+    }
+}
+
+#define EXPECT(condition) expect(condition, #condition, __LINE__)
+
+/* A plan of three items. */
+static rota_plan plan(uint8_t a, uint8_t b, uint8_t c)
+{
+    rota_plan p;
+    memset(&p, 0, sizeof p);
+    p.slots[0] = a;
+    p.slots[1] = b;
+    p.slots[2] = c;
+    return p;
+}
+
+static bool same(rota_plan a, rota_plan b)
+{
+    return memcmp(&a, &b, sizeof a) == 0;
+}
+
+static rota_plan blank(void)
+{
+    rota_plan p;
+    memset(&p, 255, sizeof p);
+    return p;
+}
+
+/* The answer's plan and callouts, with nobody short. */
+static bool gives(rota_plan_answer a, uint32_t code, rota_plan p, uint32_t callouts)
+{
+    return a.code == code && same(a.plan, p) && a.callouts == callouts && a.items == 0 && a.shortage == 0;
+}
+
+static void plans(void)
+{
+    rota_lister lister;
+    uint64_t short_opens[4] = {1, 1, 2, 14}, none[4] = {0, 0, 0, 0};
+    rota_plan_answer a;
+
+    EXPECT(gives(rota_first_plan(T), ROTA_DONE, plan(0, 1, 2), 0));
+    EXPECT(gives(rota_next_plan(T, plan(0, 1, 2)), ROTA_DONE, plan(0, 2, 1), 0));
+    EXPECT(gives(rota_next_plan(T, plan(1, 0, 2)), ROTA_NO_FURTHER_PLAN, blank(), 0));
+    EXPECT(gives(rota_next_plan(T, plan(2, 1, 0)), ROTA_NOT_A_PLAN, blank(), 0));
+    EXPECT(gives(rota_fewest_callouts(T, 1), ROTA_DONE, plan(0, 2, 1), 1));
+    EXPECT(gives(rota_fewest_callouts(T, 0), ROTA_OVER_CAP, blank(), 1));
+
+    lister.started = false;
+    lister.plan = blank();
+    EXPECT(gives(rota_list_plan(&lister, T), ROTA_DONE, plan(0, 1, 2), 0));
+    EXPECT(lister.started && same(lister.plan, plan(0, 1, 2)));
+    EXPECT(gives(rota_list_plan(&lister, T), ROTA_DONE, plan(0, 2, 1), 0));
+    EXPECT(gives(rota_list_plan(&lister, T), ROTA_DONE, plan(1, 0, 2), 0));
+    EXPECT(gives(rota_list_plan(&lister, T), ROTA_NO_FURTHER_PLAN, blank(), 0));
+    EXPECT(lister.started && same(lister.plan, plan(1, 0, 2)));
+
+    a = rota_first_plan(4, short_opens, 4, none, 4);
+    EXPECT(a.code == ROTA_NO_PLAN && same(a.plan, blank()) && a.items == 3 && a.shortage == 1 && a.callouts == 0);
+    EXPECT(gives(rota_first_plan(0, OPENS, 3, CALLOUTS, 3), ROTA_BAD_N, blank(), 0));
+    EXPECT(gives(rota_first_plan(65, OPENS, 3, CALLOUTS, 3), ROTA_BAD_N, blank(), 0));
+    EXPECT(gives(rota_first_plan(2, OPENS, 3, CALLOUTS, 3), ROTA_BAD_TABLE_LENGTH, blank(), 0));
+    EXPECT(gives(rota_first_plan(2, OPENS, 2, CALLOUTS, 2), ROTA_SLOT_OUTSIDE, blank(), 0));
+    EXPECT(gives(rota_first_plan(3, CALLOUTS, 3, OPENS, 3), ROTA_CALLOUT_NOT_OPEN, blank(), 0));
+}
+
+static void tables(void)
+{
+    /* Word S: the ways to give the slots of S to the first items. */
+    static const uint64_t ways[9] = {1, 1, 1, 2, 0, 1, 1, 3, 77};
+    uint64_t usable[4] = {9, 9, 9, 77}, tally[9];
+    rota_count_answer count;
+    rota_grade_answer grade;
+    rota_price_answer price;
+
+    EXPECT(rota_usable_slots(T, usable, 2) == ROTA_OUTPUT_TOO_SHORT);
+    EXPECT(usable[0] == 9 && usable[1] == 9 && usable[2] == 9);
+    EXPECT(rota_usable_slots(T, usable, 4) == ROTA_DONE);
+    EXPECT(usable[0] == 3 && usable[1] == 7 && usable[2] == 6 && usable[3] == 77);
+
+    memset(tally, 0, sizeof tally);
+    tally[8] = 77;
+    count = rota_count_plans(T, tally, 7);
+    EXPECT(count.code == ROTA_TALLY_TOO_SHORT && count.count == 0 && tally[0] == 0);
+    count = rota_count_plans(T, tally, 9);
+    EXPECT(count.code == ROTA_DONE && count.count == 3);
+    EXPECT(memcmp(tally, ways, sizeof tally) == 0);
+
+    memset(tally, 0, 8 * sizeof tally[0]);
+    grade = rota_grade(T, tally, 9);
+    EXPECT(grade.code == ROTA_DONE && grade.grade == 3 && grade.items == 0 && grade.shortage == 0);
+    EXPECT(memcmp(tally, ways, sizeof tally) == 0);
+
+    memset(tally, 0, 8 * sizeof tally[0]);
+    price = rota_monthly_price(T, 0, tally, 9);
+    EXPECT(price.code == ROTA_BAD_FLEET && price.cents == 0 && tally[0] == 0);
+    price = rota_monthly_price(T, 100, tally, 9);
+    EXPECT(price.code == ROTA_DONE && price.cents == 33000 && price.items == 0 && price.shortage == 0);
+    EXPECT(memcmp(tally, ways, sizeof tally) == 0);
+}
+
+static void files(void)
+{
+    uint8_t file[513], buffer[65];
+    uint64_t opens[4] = {9, 9, 9, 77}, callouts[4] = {9, 9, 9, 77};
+    rota_write_answer written;
+    rota_read_answer read;
+
+    file[512] = 77;
+    written = rota_write_file(T, file, 513);
+    EXPECT(written.code == ROTA_DONE && written.bytes == 512 && file[512] == 77);
+    EXPECT(memcmp(file, "ROTA\1\3\0\3\0\0\0\0\0\0\3", 15) == 0);
+    EXPECT(file[510] == 82 && file[511] == 1);
+
+    read = rota_read_file(file, 513, opens, 4, callouts, 4);
+    EXPECT(read.code == ROTA_BAD_FILE_LENGTH && read.n == 0 && opens[0] == 9 && callouts[0] == 9);
+    read = rota_read_file(file, 512, opens, 4, callouts, 4);
+    EXPECT(read.code == ROTA_DONE && read.n == 3);
+    EXPECT(memcmp(opens, OPENS, sizeof OPENS) == 0 && opens[3] == 77);
+    EXPECT(memcmp(callouts, CALLOUTS, sizeof CALLOUTS) == 0 && callouts[3] == 77);
+
+    memset(buffer, 77, sizeof buffer);
+    EXPECT(rota_file_first_plan(file, 512, buffer, 63) == ROTA_OUTPUT_TOO_SHORT && buffer[0] == 77);
+    EXPECT(rota_file_first_plan(file, 512, buffer, 65) == ROTA_DONE);
+    EXPECT(memcmp(buffer, plan(0, 1, 2).slots, 64) == 0 && buffer[64] == 77);
+    EXPECT(rota_file_next_plan(file, 512, buffer, 64) == ROTA_DONE);
+    EXPECT(memcmp(buffer, plan(0, 2, 1).slots, 64) == 0);
+    EXPECT(rota_file_next_plan(file, 512, buffer, 64) == ROTA_DONE);
+    EXPECT(memcmp(buffer, plan(1, 0, 2).slots, 64) == 0);
+    EXPECT(rota_file_next_plan(file, 512, buffer, 64) == ROTA_NO_FURTHER_PLAN);
+    EXPECT(rota_file_fewest_callouts(file, 512, buffer, 64, 0) == ROTA_OVER_CAP);
+    EXPECT(memcmp(buffer, plan(1, 0, 2).slots, 64) == 0);
+    EXPECT(rota_file_fewest_callouts(file, 512, buffer, 64, 1) == ROTA_DONE);
+    EXPECT(memcmp(buffer, plan(0, 2, 1).slots, 64) == 0);
+    file[0] = 'r';
+    EXPECT(rota_file_first_plan(file, 512, buffer, 64) == ROTA_BAD_CHECK);
+}
+
+int main(void)
+{
+    plans();
+    tables();
+    files();
+#ifdef __cplusplus
+    puts("header: every call agrees on T, from C++");
+#else
+    puts("header: every call agrees on T, from C");
+#endif
+    return 0;
+}
