@@ -11,12 +11,12 @@ pub struct Maximum {
     pub dead: u64,
 }
 
-// Each item of `todo`, none of which holds a slot, gets one if that is possible without exposing another.
-pub fn fill(opens: &[u64], owner: &mut [u8; 64], slot: &mut [u8; 64], free: u64, todo: u64) -> Maximum {
+// Each item of `wanting`, none of which holds a slot, gets one if that is possible without exposing another.
+pub fn fill(opens: &[u64], owner: &mut [u8; 64], slot: &mut [u8; 64], free: u64, wanting: u64) -> Maximum {
     let mut f = free;
     let mut exposed: u64 = 0;
     let mut dead: u64 = 0;
-    let mut left = todo;
+    let mut left = wanting;
     while left != 0 {
         let x = words::lowest(left);
         left = words::without_lowest(left);

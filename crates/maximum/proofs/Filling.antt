@@ -25,10 +25,10 @@ pub record Dead (w o : List ℕ) (f e d : ℕ) : Type 0 where
   pub least : (g : ℕ) → ((x : ℕ) → x < length w → bit e x ≡ 1 → Within (getD w x 0) g)
       → ((k : ℕ) → k < 64 → bit g k ≡ 1 → bit d k ≡ 1 → Within (getD w (own o k) 0) g) → Within d g
 
-pub record Filling (w : List ℕ) (todo : ℕ) (o p : List ℕ) (f e d left : ℕ) : Type 0 where
+pub record Filling (w : List ℕ) (wanting : ℕ) (o p : List ℕ) (f e d left : ℕ) : Type 0 where
   pub table : Table w o p f
-  pub walk : Walk todo left
-  pub items : todo < 2 ^ length w
+  pub walk : Walk wanting left
+  pub items : wanting < 2 ^ length w
   pub exposed-items : e < 2 ^ length w
   pub apart : (x : ℕ) → bit e x + bit left x ≤ 1
   pub exposed : (x : ℕ) → bit e x ≡ 1 → Exposed o p f x
@@ -36,14 +36,14 @@ pub record Filling (w : List ℕ) (todo : ℕ) (o p : List ℕ) (f e d left : �
   pub matched : (x : ℕ) → x < length w → bit e x ≡ 0 → bit left x ≡ 0 → Matched o p f x
   pub dead : Dead w o f e d
 
-pub filling-start : (w o p : List ℕ) (f todo : ℕ) → todo < 2 ^ 64 → Fillable w o p f todo → Filling w todo o p f 0 0 todo
-filling-start w o p f todo h F =
+pub filling-start : (w o p : List ℕ) (f wanting : ℕ) → wanting < 2 ^ 64 → Fillable w o p f wanting → Filling w wanting o p f 0 0 wanting
+filling-start w o p f wanting h F =
     record {
       table = F .table;
-      walk = walk todo h;
+      walk = walk wanting h;
       items = F .items;
       exposed-items = pow-pos (length w);
-      apart = λ x. omega (arith, bit-empty x, bit-lt todo x);
+      apart = λ x. omega (arith, bit-empty x, bit-lt wanting x);
       exposed = λ x b. absurd (omega (arith, bit-empty x));
       waiting = F .exposed;
       matched = λ x h b c. F .matched x h c;
@@ -56,8 +56,8 @@ filling-start w o p f todo h F =
       };
     }
 
-pub filling-end : (w : List ℕ) (todo : ℕ) (o p : List ℕ) (f e d left : ℕ) → Filling w todo o p f e d left → left ≡ 0 → Filled w o p f e d
-filling-end w todo o p f e d left F z =
+pub filling-end : (w : List ℕ) (wanting : ℕ) (o p : List ℕ) (f e d left : ℕ) → Filling w wanting o p f e d left → left ≡ 0 → Filled w o p f e d
+filling-end w wanting o p f e d left F z =
     record {
       table = F .table;
       items = F .exposed-items;
@@ -71,13 +71,13 @@ filling-end w todo o p f e d left F z =
     }
 
 -- a turn: x is the item, rest what is left, cand its slots that are not dead
-module _ (w : List ℕ) (todo : ℕ) (o p : List ℕ) (f e d left x rest cand : ℕ) (F : Filling w todo o p f e d left) (some : left ≢ 0) (ex : x ≡ lowest left)
+module _ (w : List ℕ) (wanting : ℕ) (o p : List ℕ) (f e d left x rest cand : ℕ) (F : Filling w wanting o p f e d left) (some : left ≢ 0) (ex : x ≡ lowest left)
     (er : rest ≡ without left (lowest left)) where
-  visit : Turn todo left x
-  visit = subst (Turn todo left) (sym ex) (turn todo left (F .walk) some)
+  visit : Turn wanting left x
+  visit = subst (Turn wanting left) (sym ex) (turn wanting left (F .walk) some)
 
   pub filling-item : x < length w
-  filling-item = bit-one-lt (length w) todo x (F .items) (visit .from)
+  filling-item = bit-one-lt (length w) wanting x (F .items) (visit .from)
 
   rest-is : rest ≡ without left x
   rest-is = er ∙ ap (without left) (sym ex)
@@ -85,7 +85,7 @@ module _ (w : List ℕ) (todo : ℕ) (o p : List ℕ) (f e d left x rest cand : 
   pub filling-less : rest < left
   filling-less = rw rest-is (visit .less)
 
-  next-walk : Walk todo rest
+  next-walk : Walk wanting rest
   next-walk = rw rest-is (visit .next)
 
   -- an item that is left was left before, and is not x
@@ -111,7 +111,7 @@ module _ (w : List ℕ) (todo : ℕ) (o p : List ℕ) (f e d left x rest cand : 
         }
 
     -- x holds slot k now
-    pub filling-found : (o′ p′ : List ℕ) (f′ k : ℕ) → Assigned w o p f x cand d o′ p′ f′ k → Filling w todo o′ p′ f′ e d rest
+    pub filling-found : (o′ p′ : List ℕ) (f′ k : ℕ) → Assigned w o p f x cand d o′ p′ f′ k → Filling w wanting o′ p′ f′ e d rest
     filling-found o′ p′ f′ k A =
         record {
           table = A .table;
@@ -134,7 +134,7 @@ module _ (w : List ℕ) (todo : ℕ) (o p : List ℕ) (f e d left x rest cand : 
         }
 
     -- x stays exposed; t are the dead slots now
-    stays : (t e′ : ℕ) → t < 2 ^ 64 → e′ ≡ with e x → Barred w o f cand d t → Filling w todo o p f e′ t rest
+    stays : (t e′ : ℕ) → t < 2 ^ 64 → e′ ≡ with e x → Barred w o f cand d t → Filling w wanting o p f e′ t rest
     stays t e′ ht ee B =
         let ew : (y : ℕ) → bit e′ y ≡ bit (with e x) y = λ y. ap (λ z. bit z y) ee in
         let old : (y : ℕ) → bit e y ≤ bit e′ y = λ y. omega (arith, ew y, bit-with-le e x y) in
@@ -168,7 +168,7 @@ module _ (w : List ℕ) (todo : ℕ) (o p : List ℕ) (f e d left x rest cand : 
           };
         }
 
-    pub filling-failed : (o′ p′ : List ℕ) (t e′ : ℕ) → t < 2 ^ 64 → e′ ≡ with e x → Same o p o′ p′ × Barred w o f cand d t → Filling w todo o′ p′ f e′ t rest
+    pub filling-failed : (o′ p′ : List ℕ) (t e′ : ℕ) → t < 2 ^ 64 → e′ ≡ with e x → Same o p o′ p′ × Barred w o f cand d t → Filling w wanting o′ p′ f e′ t rest
     filling-failed o′ p′ t e′ ht ee r = rw (r .0 .owner, r .0 .slot) (stays t e′ ht ee (r .1))
 
 -- ---- no table yet
@@ -187,8 +187,8 @@ module _ (w : List ℕ) (few : length w ≤ 64) (range : (x : ℕ) → x < lengt
         zeros = λ x h g. getD-replicate 64 x 0 0 g;
       }
 
-  pub all-fillable : (todo : ℕ) → todo ≡ low (length w) → Fillable w (replicate 64 0) (replicate 64 0) (low 64) todo
-  all-fillable todo e =
+  pub all-fillable : (wanting : ℕ) → wanting ≡ low (length w) → Fillable w (replicate 64 0) (replicate 64 0) (low 64) wanting
+  all-fillable wanting e =
       rw e
       (record {
         table = empty-table;

@@ -14,11 +14,11 @@ use Rattle.augment.specs.Table.{own, Table, Matched, Exposed}
 use Rattle.augment.specs.Search.{Within}
 
 -- the items of a word hold no slot, the others do
-pub record Fillable (w o p : List ℕ) (f todo : ℕ) : Type 0 where
+pub record Fillable (w o p : List ℕ) (f wanting : ℕ) : Type 0 where
   pub table : Table w o p f
-  pub items : todo < 2 ^ length w
-  pub exposed : (x : ℕ) → bit todo x ≡ 1 → Exposed o p f x
-  pub matched : (x : ℕ) → x < length w → bit todo x ≡ 0 → Matched o p f x
+  pub items : wanting < 2 ^ length w
+  pub exposed : (x : ℕ) → bit wanting x ≡ 1 → Exposed o p f x
+  pub matched : (x : ℕ) → x < length w → bit wanting x ≡ 0 → Matched o p f x
 
 -- The items of e hold no slot, the others do. The slots of d are held; all slots open to their holders and to the items of e are in d;
 -- and d is the least such set.

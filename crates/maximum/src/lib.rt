@@ -17,21 +17,21 @@ pub struct Maximum {
     pub dead: u64,
 }
 
-// Each item of `todo`, none of which holds a slot, gets one if that is possible without exposing another.
+// Each item of `wanting`, none of which holds a slot, gets one if that is possible without exposing another.
 pub fn fill(
     opens: &[u64],
     owner: &mut [u8; 64],
     slot: &mut [u8; 64],
     free: u64,
-    todo: u64,
+    wanting: u64,
 ) -> Maximum
-    requires { ⌜ Fillable (now opens) (now owner) (now slot) free todo ⌝ }
+    requires { ⌜ Fillable (now opens) (now owner) (now slot) free wanting ⌝ }
     ensures { λ r. ⌜ Filled (now (opens .entry)) (now (owner .exit)) (now (slot .exit)) (r .free) (r .exposed) (r .dead) ⌝ }
 {
     let mut f = free;
     let mut exposed: u64 = 0;
     let mut dead: u64 = 0;
-    let mut left = todo;
+    let mut left = wanting;
     while left != 0 {
         let x = words::lowest(left);
         left = words::without_lowest(left);

@@ -11,10 +11,10 @@ use Rattle.maximum.proofs.fill.Statement.{statement}
 use Rattle.maximum.proofs.fill.Tie as tie
 
 abbrev Inv-loop : tie.InvT-loop
-Inv-loop opens owner₀ slot₀ free todo f₀ exposed₀ dead₀ left₀ owner slot f exposed dead left = Filling opens todo owner slot f exposed dead left
+Inv-loop opens owner₀ slot₀ free wanting f₀ exposed₀ dead₀ left₀ owner slot f exposed dead left = Filling opens wanting owner slot f exposed dead left
 
 abbrev μ-loop : tie.MeasureT-loop
-μ-loop opens owner₀ slot₀ free todo f₀ exposed₀ dead₀ left₀ owner slot f exposed dead left = left
+μ-loop opens owner₀ slot₀ free wanting f₀ exposed₀ dead₀ left₀ owner slot f exposed dead left = left
 
 item : (c : tie.After-without-lowest Inv-loop μ-loop) → c .before .lowest .result < length (c .before .before .before .before .before .args .opens .now)
 item c =
