@@ -2,16 +2,16 @@
 use mathlib.Core.Path.{_≡_, refl, sym, ap, _∙_, subst}
 use mathlib.Core.Logic.{_≢_}
 use mathlib.Core.List.{List}
-use Prim.Native.Nat.{ℕ, _+_, _-_, _^_, _≤_, _<_, min, max}
+use Prim.Native.Nat.{ℕ, _-_, _^_, _≤_, _<_, min}
 use native.Mathlib.Omega.{arith}
 use lib.Bits.{bitAnd, bitOr, and-le-l, or-lt}
 use lib.Count.{ones, ones-le}
 use lib.ListN.{length, getD, set}
 use Rattle.words.specs.Word.{bit, with, without, minus, lowest}
-use Rattle.words.proofs.Bits.{bit-lt, bit-empty, bit-and, bit-or, bit-minus, bit-with, bit-with-other, bit-without-other}
+use Rattle.words.proofs.Bits.{bit-lt, bit-empty, bit-and, bit-or, bit-minus, bit-with, bit-with-other}
 use Rattle.words.proofs.Sets.{bit-with-le, minus-le, ones-proper, lowest-lt, bit-lowest}
 use Rattle.augment.specs.Table.{own, at, cell, Table, Matched, Exposed, Owners, span}
-use Rattle.augment.specs.Search.{Within, Movable, Mover, Passable, Passed, Vacatable, Vacated, Closed, Assignable, Assigned, Barred}
+use Rattle.augment.specs.Search.{Movable, Mover, Passable, Passed, Vacatable, Vacated, Closed, Assignable, Assigned, Barred}
 use Rattle.augment.proofs.Spans.{span-into, span-from, span-lt, span-same}
 use Rattle.augment.proofs.Moves.{same-or, holder-matched, release-table, release-exposed, release-stay, release-new, take-table, take-own, take-free, take-slot, take-holds, take-stay, take-new}
 

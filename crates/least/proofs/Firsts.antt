@@ -1,6 +1,6 @@
 -- What `settle` leaves is the least plan, and `first_plan` gives the model's first one. Assumes nothing.
-use mathlib.Core.Path.{_≡_, refl, sym, _∙_}
-use mathlib.Core.Logic.{_≢_, _⊎_, inl, inr, ⊎-elim}
+use mathlib.Core.Path.{_≡_, sym, _∙_}
+use mathlib.Core.Logic.{_≢_, _⊎_, inl, inr}
 use mathlib.Core.List.{List}
 use Prim.Native.Nat.{ℕ, _^_, _≤_, _<_}
 use native.Mathlib.Omega.{arith}
@@ -15,7 +15,7 @@ use Rattle.model.proofs.Laws.{first-of, first-of-none}
 use Rattle.augment.specs.Table.{at, Complete}
 use Rattle.maximum.specs.Maximum.{Filled, deficientBy}
 use Rattle.maximum.proofs.Deficient.{deficient-answer, exposed-no-plan}
-use Rattle.least.specs.Least.{Prefix, Settleable, Same-to, Settled}
+use Rattle.least.specs.Least.{Settleable, Same-to, Settled}
 
 -- ---- a complete table
 

@@ -1,10 +1,9 @@
 -- The items of a complete table get their least slots one after the other: the steps of `later`, `sink` and `settle`.
 -- Assumes nothing.
-use mathlib.Core.Path.{_≡_, refl, sym, ap, _∙_, subst}
-use mathlib.Core.Logic.{_≢_, _⊎_, inl, inr, ⊎-elim}
+use mathlib.Core.Path.{_≡_, refl, sym, ap, _∙_}
+use mathlib.Core.Logic.{_≢_}
 use mathlib.Core.List.{List}
 use Prim.Native.Nat.{ℕ, _+_, _-_, _^_, _≤_, _<_, max}
-use native.Mathlib.Nat.{le-trans}
 use native.Mathlib.Omega.{arith}
 use native.Mathlib.Decide.{decLt}
 use lib.Bits.{bitAnd, bitOr}
@@ -14,12 +13,12 @@ use Rattle.words.specs.Word.{bit, with, minus, low}
 use Rattle.words.proofs.Bits.{bit-lt, bit-empty, bit-and, bit-or, bit-minus, bit-low, bit-single, bit-with, bit-with-other, with-lt}
 use Rattle.words.proofs.Sets.{bit-with-le}
 use Rattle.model.specs.Plans.{IsPlan}
-use Rattle.augment.specs.Table.{own, at, Table, Matched, Complete}
+use Rattle.augment.specs.Table.{own, at, Matched, Complete}
 use Rattle.augment.specs.Search.{Within}
 use Rattle.augment.proofs.Moves.{same-or}
 use Rattle.augment.proofs.Bars.{Shut, Agrees, slot-lt}
 use Rattle.augment.proofs.Completes.{complete-plan}
-use Rattle.least.specs.Least.{Kept, Stuck, Lowerable, Lowered, After, Later, Prefix, Sinkable, Settleable, Same-to, Settled}
+use Rattle.least.specs.Least.{Kept, Lowerable, Lowered, After, Later, Prefix, Sinkable, Settleable, Same-to, Settled}
 use Rattle.least.proofs.Shifts.{own-slot, held-without, closed-bars}
 
 -- ---- later: from the last item down to i

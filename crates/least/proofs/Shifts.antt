@@ -1,23 +1,18 @@
 -- An item of a complete table moves: the steps of `shift` and `lower`. Assumes nothing.
-use mathlib.Core.Path.{_≡_, refl, sym, ap, _∙_, subst}
-use mathlib.Core.Logic.{_≢_}
+use mathlib.Core.Path.{_≡_, refl, sym, ap, _∙_}
 use mathlib.Core.List.{List}
-use Prim.Native.Nat.{ℕ, _+_, _-_, _^_, _≤_, _<_, min}
-use native.Mathlib.Nat.{lt-of-lt-of-le}
+use Prim.Native.Nat.{ℕ, _-_, _^_, _≤_, _<_, min}
 use native.Mathlib.Omega.{arith}
 use native.Mathlib.Decide.{decLt}
-use lib.Bits.{bitAnd, and-le-l}
-use lib.ListN.{length, getD}
-use lib.Pow.{pow-mono}
+use lib.Bits.{bitAnd}
 use Rattle.words.specs.Word.{bit, with, minus, low}
-use Rattle.words.proofs.Bits.{bit-lt, bit-empty, bit-and, bit-minus, bit-low, bit-low-high, bit-one-lt, bit-with-other}
-use Rattle.words.proofs.Sets.{minus-le}
+use Rattle.words.proofs.Bits.{bit-lt, bit-empty, bit-and, bit-minus, bit-low, bit-low-high, bit-with-other}
 use Rattle.model.specs.Plans.{IsPlan}
-use Rattle.augment.specs.Table.{own, at, Table, Matched, Complete}
-use Rattle.augment.specs.Search.{Within, Assignable, Assigned, Barred, Same}
+use Rattle.augment.specs.Table.{own, at, Matched, Complete}
+use Rattle.augment.specs.Search.{Assignable, Assigned, Barred, Same}
 use Rattle.augment.proofs.Moves.{same-or}
 use Rattle.augment.proofs.Bars.{Shut, Agrees, slot-lt, barred}
-use Rattle.augment.proofs.Completes.{complete-plan, leave-table, leave-exposed, take-complete}
+use Rattle.augment.proofs.Completes.{leave-table, leave-exposed, take-complete}
 use Rattle.least.specs.Least.{Kept, Shiftable, Shifted, Stuck, Lowerable, Lowered}
 
 module _ (w o p : List ℕ) (f x keep : ℕ) (K : Kept w o p f x keep) where

@@ -11,7 +11,7 @@ use lib.Count.{ones, ones-le}
 use lib.ListN.{length, getD}
 use lib.Pow.{pow-mono, pow-pos}
 use Rattle.words.specs.Word.{bit, without, minus, with, lowest}
-use Rattle.words.proofs.Bits.{ext, bit-lt, bit-empty, bit-and, bit-or, bit-minus, bit-one-lt, with-lt}
+use Rattle.words.proofs.Bits.{ext, bit-lt, bit-empty, bit-and, bit-or, bit-minus, with-lt}
 use Rattle.words.proofs.Sets.{ones-or-and, ones-minus, ones-none, ones-subset, subset-eq, empty, minus-le, bit-with-max}
 use Rattle.words.proofs.Walk.{Walk, Turn, walk, turn}
 use Rattle.model.specs.Plans.{blank, IsPlan}
@@ -19,7 +19,7 @@ use Rattle.model.specs.Answers as answers
 use Rattle.model.specs.Deficiency.{neighbours, shortBy, deficiency, deficientSet}
 use Rattle.model.proofs.Sets.{image, image-into, image-from, image-lt, ones-image, image-pick}
 use Rattle.model.proofs.Deficiency.{neighbours-into, neighbours-from, neighbours-lt, plan-none-short, deficiency-by, deficient-set-by}
-use Rattle.augment.specs.Table.{own, at, cell, Table, Matched, Exposed, Complete}
+use Rattle.augment.specs.Table.{own, at, cell, Matched, Complete}
 use Rattle.augment.specs.Search.{Within}
 use Rattle.augment.proofs.Moves.{same-or, once, exposed-other}
 use Rattle.maximum.specs.Maximum.{Filled, holders, deficientBy}

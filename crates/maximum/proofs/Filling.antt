@@ -3,13 +3,13 @@ use mathlib.Core.Path.{_≡_, refl, sym, ap, _∙_, subst}
 use mathlib.Core.Logic.{_≢_}
 use mathlib.Core.List.{List}
 use Prim.Native.Nat.{ℕ, _+_, _-_, _^_, _≤_, _<_, min}
-use native.Mathlib.Nat.{le-trans, lt-of-lt-of-le}
+use native.Mathlib.Nat.{le-trans}
 use native.Mathlib.Omega.{arith}
 use lib.ListN.{length, getD, replicate, getD-replicate}
-use lib.Pow.{pow-mono, pow-pos}
+use lib.Pow.{pow-pos}
 use Rattle.words.specs.Word.{bit, with, without, minus, low, lowest}
-use Rattle.words.proofs.Bits.{bit-lt, bit-empty, bit-one-lt, bit-minus, bit-low, low-lt, bit-with, bit-with-other, with-lt, bit-without, bit-without-other, without-le}
-use Rattle.words.proofs.Sets.{bit-with-le, bit-without-le, minus-le}
+use Rattle.words.proofs.Bits.{bit-lt, bit-empty, bit-one-lt, bit-minus, bit-low, low-lt, bit-with, bit-with-other, with-lt, bit-without, bit-without-other}
+use Rattle.words.proofs.Sets.{bit-with-le, bit-without-le}
 use Rattle.words.proofs.Walk.{Walk, Turn, walk, turn}
 use Rattle.augment.specs.Table.{own, at, Table, Matched, Exposed}
 use Rattle.augment.specs.Search.{Within, Assignable, Assigned, Barred, Same}

@@ -1,10 +1,10 @@
 -- What a search has to show of a plan for it to be the answer. No proof of a program opens the list of plans: it cites these laws.
 -- Assumes nothing.
 use mathlib.Core.Path.{_≡_, refl, sym, ap, ap₂, _∙_, subst}
-use mathlib.Core.Logic.{_⊎_, inl, inr, ⊎-elim}
+use mathlib.Core.Logic.{_⊎_}
 use mathlib.Core.Bool.{Bool, true, false, cond}
-use mathlib.Core.List.{List, [], _∷_, map, List·Memᴰ, List·Memᴰ·head, List·Memᴰ·not-nil}
-use Prim.Native.Nat.{ℕ, zero, suc, _^_, _<_, _≤_}
+use mathlib.Core.List.{List, [], _∷_, List·Memᴰ, List·Memᴰ·head, List·Memᴰ·not-nil}
+use Prim.Native.Nat.{ℕ, _^_, _<_, _≤_}
 use native.Mathlib.Omega.{arith}
 use lib.Dec.{T, eqb, leb, eqb→eq, eqb-refl}
 use lib.ListN.{length, getD}
@@ -13,7 +13,7 @@ use Rattle.words.proofs.Bits.{bit-lt}
 use Rattle.words.proofs.Sums.{sum-const, sum-le}
 use Rattle.model.specs.declared.Plan.{Plan}
 use Rattle.model.specs.Lists.{keep, any, same, before, least}
-use Rattle.model.specs.Rota.{tableCode, Accepted}
+use Rattle.model.specs.Rota.{tableCode}
 use Rattle.model.specs.Plans.{plans, isPlan, plansAfter, IsPlan}
 use Rattle.model.specs.Fewest.{calloutsOf, fewest, fewestPlans}
 use Rattle.model.specs.Count.{count}

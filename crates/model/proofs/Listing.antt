@@ -1,9 +1,8 @@
 -- Demand 3: a whole list of enumerator calls gives the complete plans of the one rota in dictionary order, each once. The
 -- invariant: after k calls over the rota the enumerator holds plan number min k count, less one, or is as it began.
 -- Assumes nothing.
-use mathlib.Core.Path.{_≡_, refl, sym, ap, ap₂, _∙_, subst}
-use mathlib.Core.Logic.{_↔_}
-use mathlib.Core.Bool.{Bool, true, false, cond}
+use mathlib.Core.Path.{_≡_, refl, sym, ap, ap₂, _∙_}
+use mathlib.Core.Bool.{true, false, cond}
 use mathlib.Core.List.{List, [], _∷_, map, nil≢cons, head-eq-of-cons-eq, tail-eq-of-cons-eq}
 use Prim.Native.Nat.{ℕ, zero, suc, _+_, _<_, _≤_, min}
 use native.Mathlib.Nat.{add-zero, zero-add, add-suc, suc-add}
@@ -16,8 +15,8 @@ use lib.Seq.{drop-cons}
 use Rattle.words.specs.Sum.{upFrom, below}
 use Rattle.model.specs.declared.PlanAnswer.{PlanAnswer}
 use Rattle.model.specs.declared.Enumerator.{Enumerator}
-use Rattle.model.specs.Rota.{tableCode, Accepted}
-use Rattle.model.specs.Plans.{plans, isPlan, plansAfter, IsPlan}
+use Rattle.model.specs.Rota.{tableCode}
+use Rattle.model.specs.Plans.{plans, isPlan, plansAfter}
 use Rattle.model.specs.Count.{count}
 use Rattle.model.specs.Answers.{firstAnswer, nextAnswer, firstOf, nextOf, given, deficient, refused, unless, countAnswer, unlessRefused}
 use Rattle.model.specs.Enumerator.{Call, ours, other, howMany, afterCall, ourAnswers, afterCalls, OthersRefused, IsListing, callAnswer, holding, enumeratorAnswer, enumeratorAfter, stored}

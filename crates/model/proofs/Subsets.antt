@@ -1,9 +1,9 @@
 -- The subset counts: their recurrence by the last item, the last word is the count, and each is at most 20!. Assumes nothing.
-use mathlib.Core.Path.{_≡_, refl, sym, ap, ap₂, _∙_, subst}
+use mathlib.Core.Path.{_≡_, refl, sym, ap, ap₂, _∙_}
 use mathlib.Core.Logic.{_≢_}
 use mathlib.Core.Bool.{Bool, true, false, not, _&&_}
-use mathlib.Core.List.{List, [], _∷_, _++_, List·Memᴰ}
-use Prim.Native.Nat.{ℕ, zero, suc, _+_, _*_, _^_, _<_, _≤_}
+use mathlib.Core.List.{List}
+use Prim.Native.Nat.{ℕ, zero, suc, _*_, _^_, _<_, _≤_}
 use native.Mathlib.Nat.{le-trans, le-refl, le-of-eq}
 use native.Mathlib.Decide.{le-ind}
 use native.Mathlib.Omega.{arith}
@@ -14,17 +14,17 @@ use lib.ListN.{length, getD, take, length-take}
 use lib.Seq.{take-suc, take-length, length-take-le}
 use Rattle.words.specs.Word.{bit, has, without, low}
 use Rattle.words.specs.Sum.{below, total, sum}
-use Rattle.words.proofs.Bits.{at-slot, bit-lt, bit-cases, bit-low, low-lt, bit-without, bit-without-other, without-le, has-true, has-false}
+use Rattle.words.proofs.Bits.{at-slot, bit-lt, bit-low, bit-without, bit-without-other, without-le, has-true, has-false}
 use Rattle.words.proofs.Sums.{below-from, total-cong, sum-le, sum-scale}
 use Rattle.words.proofs.Sets.{ones-sum, ones-none, ones-low, ones-without}
 use Rattle.model.specs.Lists.{keep, remove}
 use Rattle.model.specs.Sets.{members}
 use Rattle.model.specs.Plans.{matchings}
-use Rattle.model.specs.Count.{count, subsetCount, subsetCounts}
+use Rattle.model.specs.Count.{count, subsetCount}
 use Rattle.model.proofs.Members.{keep-all}
-use Rattle.model.proofs.Sets.{one, bit-is, members-from, length-members}
+use Rattle.model.proofs.Sets.{one, bit-is, members-from}
 use Rattle.model.proofs.Permanent.{count-matchings}
-use Rattle.model.proofs.Ways.{keep-same, keep-keep, total-keep, ways, ways-cons, ways-snoc}
+use Rattle.model.proofs.Ways.{keep-same, keep-keep, total-keep, ways, ways-snoc}
 
 -- ---- one slot less
 

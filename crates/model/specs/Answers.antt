@@ -1,6 +1,6 @@
 -- What each public call answers, refused or not, and what each lent buffer holds afterwards. A call over tables takes n items,
 -- m slots, open words and callout words. Assumes nothing.
-use mathlib.Core.Bool.{Bool, cond, _||_}
+use mathlib.Core.Bool.{cond, _||_}
 use mathlib.Core.List.{List, [], _∷_, _++_}
 use Prim.Native.Nat.{ℕ, zero, suc, _*_, _^_}
 use lib.Dec.{eqb, ltb, leb}

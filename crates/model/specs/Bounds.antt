@@ -1,8 +1,8 @@
 -- The definitions at the bounds of document 01's rules, computed by antt. Assumes nothing.
 use mathlib.Core.Path.{_≡_, refl}
 use mathlib.Core.Bool.{true, false}
-use mathlib.Core.List.{List, [], _∷_}
-use Prim.Native.Nat.{ℕ, _^_, _-_}
+use mathlib.Core.List.{[], _∷_}
+use Prim.Native.Nat.{_^_, _-_}
 use lib.ListN.{replicate}
 use Rattle.model.specs.Rota.{tableCode}
 use Rattle.model.specs.Grade.{gradeOf, rate}

@@ -1,14 +1,13 @@
 -- The rows marked P of document 01, and T's file: one table of equations that antt computes. Assumes nothing.
 use mathlib.Core.Path.{_≡_, refl}
-use mathlib.Core.List.{List, [], _∷_, _++_, map}
+use mathlib.Core.List.{List, [], _∷_, _++_}
 use Prim.Native.Nat.{ℕ, _+_, _*_}
 use lib.ListN.{length, getD, take, drop, replicate}
-use Rattle.model.specs.declared.Plan.{Plan}
-use Rattle.model.specs.Plans.{plans, padded, blank}
+use Rattle.model.specs.Plans.{plans, blank}
 use Rattle.model.specs.Allowed.{allowedWords}
 use Rattle.model.specs.Count.{permanent, subsetCounts}
 use Rattle.model.specs.File.{fileBytes, fileCode, itemsIn, opensIn, calloutsIn}
-use Rattle.model.specs.Answers.{firstAnswer, nextAnswer, fewestAnswer, countAnswer, gradeAnswer, priceAnswer, given, refused, overCap, deficient}
+use Rattle.model.specs.Answers.{firstAnswer, nextAnswer, fewestAnswer, countAnswer, gradeAnswer, priceAnswer, given, refused, overCap}
 
 abbrev T-opens : List ℕ
 T-opens = 3 ∷ 7 ∷ 6 ∷ []

@@ -1,5 +1,5 @@
 -- Whether a record is a plan: the loop of `adopt_items`, the complete table that it leaves, and the answers. Assumes nothing.
-use mathlib.Core.Path.{_≡_, refl, sym, ap, _∙_, subst}
+use mathlib.Core.Path.{_≡_, sym, ap, _∙_, subst}
 use mathlib.Core.Logic.{_≢_}
 use mathlib.Core.Bool.{cond}
 use mathlib.Core.List.{List}
@@ -13,7 +13,7 @@ use Rattle.model.specs.declared.PlanAnswer.{PlanAnswer}
 use Rattle.model.specs.Plans.{isPlan, IsPlan}
 use Rattle.model.specs.Answers.{refused}
 use Rattle.model.proofs.Laws.{is-plan, is-no-plan}
-use Rattle.augment.specs.Table.{own, at, cell, Table, Matched, Complete}
+use Rattle.augment.specs.Table.{own, at, cell, Complete}
 use Rattle.augment.proofs.Moves.{same-or}
 use Rattle.augment.proofs.Completes.{complete-plan}
 use Rattle.next.specs.Next.{Zeros, Adopted}

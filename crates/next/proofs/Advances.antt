@@ -1,10 +1,9 @@
 -- The loop of `advance`: from the last item down to i none can go above its slot in a plan that gives the items before it the same
 -- slots. The first that can gives the next plan. Assumes nothing.
-use mathlib.Core.Path.{_≡_, refl, sym, ap, _∙_, subst}
-use mathlib.Core.Logic.{_≢_, _⊎_, inl, inr}
+use mathlib.Core.Path.{_≡_, refl, sym, ap, _∙_}
+use mathlib.Core.Logic.{_≢_, _⊎_, inr}
 use mathlib.Core.List.{List}
-use Prim.Native.Nat.{ℕ, _+_, _-_, _^_, _≤_, _<_, max}
-use native.Mathlib.Nat.{le-trans}
+use Prim.Native.Nat.{ℕ, _+_, _-_, _^_, _≤_, _<_}
 use native.Mathlib.Omega.{arith}
 use native.Mathlib.Decide.{decLt}
 use lib.Bits.{bitOr}
@@ -17,12 +16,12 @@ use Rattle.model.specs.Plans.{plansAfter, IsPlan}
 use Rattle.model.specs.Answers.{nextOf, given, refused}
 use Rattle.model.proofs.Order.{Before, before-by, before-place}
 use Rattle.model.proofs.Laws.{next-of, next-of-none}
-use Rattle.augment.specs.Table.{own, at, Table, Matched, Complete}
+use Rattle.augment.specs.Table.{own, at, Complete}
 use Rattle.augment.specs.Search.{Within, Same}
 use Rattle.augment.proofs.Moves.{same-or}
 use Rattle.augment.proofs.Bars.{slot-lt}
 use Rattle.augment.proofs.Completes.{complete-plan}
-use Rattle.least.specs.Least.{Stuck, Lowered, After, Prefix, Sinkable, Settleable, Same-to, Settled}
+use Rattle.least.specs.Least.{Stuck, Lowered, Prefix, Sinkable, Settleable, Same-to, Settled}
 use Rattle.least.proofs.Settles.{prefix-agrees, prefix-stays, prefix-next}
 use Rattle.least.proofs.Firsts.{settled-before}
 use Rattle.next.specs.Next.{above}

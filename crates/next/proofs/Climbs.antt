@@ -1,19 +1,17 @@
 -- The steps of `climb`: the item leaves its slot for one above, and goes down among these. Assumes nothing.
-use mathlib.Core.Path.{_≡_, refl, sym, ap, _∙_}
-use mathlib.Core.Logic.{_≢_}
+use mathlib.Core.Path.{_≡_, sym, ap, _∙_}
 use mathlib.Core.List.{List}
 use Prim.Native.Nat.{ℕ, _+_, _-_, _^_, _≤_, _<_, min}
 use native.Mathlib.Nat.{lt-of-lt-of-le}
 use native.Mathlib.Omega.{arith}
 use lib.Bits.{bitAnd, bitOr}
-use lib.ListN.{length, getD}
+use lib.ListN.{getD}
 use lib.Pow.{pow-mono}
 use Rattle.words.specs.Word.{bit, minus, low}
 use Rattle.words.proofs.Bits.{bit-lt, bit-empty, bit-minus, bit-low, bit-low-high, low-lt}
-use Rattle.model.specs.Plans.{IsPlan}
 use Rattle.augment.specs.Table.{own, at, cell}
 use Rattle.augment.specs.Search.{Within, Same}
-use Rattle.augment.proofs.Bars.{Agrees, slot-lt}
+use Rattle.augment.proofs.Bars.{slot-lt}
 use Rattle.least.specs.Least.{Kept, Shiftable, Shifted, Stuck, Lowerable, Lowered, Sinkable}
 use Rattle.least.proofs.Shifts.{own-slot, not-kept}
 use Rattle.least.proofs.Settles.{prefix-kept, pinned}

@@ -8,12 +8,11 @@ use native.Mathlib.Omega.{arith}
 use lib.ListN.{length, getD, take, drop}
 use lib.Seq.{ext-getD, getD-take, length-take-le}
 use Rattle.model.specs.declared.Plan.{Plan}
-use Rattle.model.specs.declared.PlanAnswer.{PlanAnswer}
 use Rattle.model.specs.Rota.{tableCode}
 use Rattle.model.specs.Plans.{plans, isPlan, plansAfter}
 use Rattle.model.specs.Fewest.{fewest, fewestPlans}
 use Rattle.model.specs.Allowed.{allowedWords}
-use Rattle.model.specs.Answers.{refused, unless, orElse, written, roomCode, firstOf, firstAnswer, nextOf, nextAnswer, fewestOf, fewestAnswer, allowedCode, allowedAfter}
+use Rattle.model.specs.Answers.{refused, unless, orElse, roomCode, firstOf, firstAnswer, nextOf, nextAnswer, fewestOf, fewestAnswer, allowedCode, allowedAfter}
 use Rattle.model.proofs.Accepted.{tables-from, accepted}
 use Rattle.model.proofs.Laws.{few}
 use Rattle.model.proofs.Refusals.{or-first, or-later, room-enough, room-short, unless-refused, nothing-written, all-written}

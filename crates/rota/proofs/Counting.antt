@@ -2,11 +2,11 @@
 use mathlib.Core.Path.{_≡_, refl, sym, ap, ap₂, _∙_, subst}
 use mathlib.Core.Logic.{_≢_}
 use mathlib.Core.Bool.{Bool}
-use mathlib.Core.List.{List, [], _∷_, _++_}
+use mathlib.Core.List.{List, [], _∷_}
 use Prim.Native.Nat.{ℕ, zero, suc, _^_, _≤_, _<_}
 use native.Mathlib.Omega.{arith}
 use borrow.Author.Tests.{lt-ltb, le-ltb, ltb-false}
-use lib.ListN.{length, drop}
+use lib.ListN.{length}
 use Rattle.model.specs.declared.PlanAnswer.{PlanAnswer}
 use Rattle.model.specs.declared.CountAnswer.{CountAnswer}
 use Rattle.model.specs.declared.GradeAnswer.{GradeAnswer}
@@ -14,8 +14,7 @@ use Rattle.model.specs.Rota.{tableCode}
 use Rattle.model.specs.Plans.{plans}
 use Rattle.model.specs.Count.{count, subsetCounts}
 use Rattle.model.specs.Grade.{gradeOf, someForced}
-use Rattle.model.specs.Deficiency.{deficiency, deficientSet}
-use Rattle.model.specs.Answers.{orElse, unlessRefused, written, tallyCode, countCode, countAnswer, countTally, firstOf, given, deficient, gradeBy, gradeUnless, gradeRefused, gradeAnswer, gradeTally}
+use Rattle.model.specs.Answers.{written, tallyCode, countCode, countAnswer, countTally, firstOf, given, deficient, gradeBy, gradeUnless, gradeRefused, gradeAnswer, gradeTally}
 use Rattle.model.proofs.Accepted.{passed, tables-from}
 use Rattle.model.proofs.Refusals.{or-first, or-later, neither-refuses, nothing-written, zero-number, all-written, the-number}
 use Rattle.model.proofs.Slots.{plans-wide}

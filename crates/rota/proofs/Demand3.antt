@@ -1,25 +1,22 @@
 -- Demand 3 over the contracts of `list_plan`, `usable_slots` and `count_plans`: model's theorem, for calls that meet them. Assumes nothing.
 use mathlib.Core.Path.{_≡_, refl, sym, ap, ap₂, _∙_, subst}
-use mathlib.Core.Logic.{_↔_}
-use mathlib.Core.Bool.{false}
-use mathlib.Core.List.{List, [], _∷_, _++_, map}
+use mathlib.Core.List.{List, [], _∷_, map}
 use Prim.Native.Nat.{ℕ}
-use native.Mathlib.Omega.{arith}
-use lib.ListN.{length, getD, take, drop}
+use lib.ListN.{length, take, drop}
 use lib.Seq.{take-at}
 use Rattle.model.specs.declared.PlanAnswer.{PlanAnswer}
 use Rattle.model.specs.declared.Enumerator.{Enumerator}
 use Rattle.model.specs.Rota.{tableCode}
 use Rattle.model.specs.Plans.{plans}
 use Rattle.model.specs.Allowed.{allowedWords}
-use Rattle.model.specs.Answers.{written, allowedCode, allowedAfter, countAnswer}
+use Rattle.model.specs.Answers.{allowedAfter}
 use Rattle.model.specs.Enumerator.{Call, ours, other, afterCall, ourAnswers, afterCalls, IsListing, enumeratorAnswer, enumeratorAfter}
 use Rattle.model.specs.Enumerator as model
 use Rattle.model.proofs.Accepted.{tables-from}
 use Rattle.model.proofs.Refusals.{all-written}
 use Rattle.model.proofs.Allowed.{length-allowed}
 use Rattle.model.proofs.Listing as listing
-use Rattle.rota.specs.Demand3.{Made, Met, MetCall, Chained, RefusedUnlessOurs, OthersRefused, ownAnswer, ownAnswers, leftBy, Usable, Lists, Demand3}
+use Rattle.rota.specs.Demand3.{Made, MetCall, Chained, RefusedUnlessOurs, OthersRefused, ownAnswer, ownAnswers, leftBy, Usable, Lists, Demand3}
 
 abbrev calls-of : List Made → List Call
 calls-of = map (λ (c : Made). c .call)

@@ -1,8 +1,8 @@
 -- Calls on a file's bytes, from what reading it gave: refused by the file, for room, or answered over its rota. Assumes nothing.
-use mathlib.Core.Path.{_≡_, refl, sym, ap, ap₂, _∙_, subst}
+use mathlib.Core.Path.{_≡_, sym, ap, ap₂, _∙_}
 use mathlib.Core.Logic.{_≢_}
 use mathlib.Core.Bool.{cond}
-use mathlib.Core.List.{List, _++_}
+use mathlib.Core.List.{List}
 use Prim.Native.Nat.{ℕ, _≤_, _<_}
 use native.Mathlib.Omega.{arith}
 use native.Mathlib.Decide.{ℕ-discrete}
@@ -20,7 +20,7 @@ use Rattle.model.proofs.Refusals.{or-first, or-later, room-enough, room-short, 
 use Rattle.model.proofs.Slots.{first-wide, next-wide, fewest-wide}
 use Rattle.min_cost.specs.Dual.{Square}
 use Rattle.rota.proofs.Calls.{squared}
-use Rattle.rota_file.proofs.RoundTrips.{accepted-bytes, items-read, opens-read, callouts-read}
+use Rattle.rota_file.proofs.RoundTrips.{items-read, opens-read, callouts-read}
 
 abbrev zeros : List ℕ
 zeros = replicate 64 0

@@ -3,8 +3,8 @@ use mathlib.Core.Path.{_≡_, refl, sym, ap, ap₂, _∙_, subst}
 use mathlib.Core.Logic.{_≢_, _⊎_, inl, inr, ⊎-elim}
 use mathlib.Core.Bool.{Bool, true, false, not, _||_}
 use Prim.Native.Nat.{ℕ, zero, suc, _+_, _-_, _*_, _/_, _%_, _^_, _≤_, _<_, min, max}
-use native.Mathlib.Nat.{lt-of-lt-of-le, lt-of-le-of-lt, pow-suc, le-antisymm, zero-mul, one-mul, mul-assoc}
-use native.Mathlib.Decide.{ℕ-discrete, decLt, decLe}
+use native.Mathlib.Nat.{lt-of-lt-of-le, lt-of-le-of-lt, zero-mul, one-mul, mul-assoc}
+use native.Mathlib.Decide.{decLt}
 use native.Mathlib.Omega.{arith}
 use borrow.Author.Tests.{eq-eqb, ne-eqb, eqb-true, eqb-false, le-leb, lt-leb}
 use lib.Arith.{lt-one}
@@ -15,7 +15,7 @@ use lib.Count.{ones, ones-step, ones-ones, trailingZeros, under, trailing-le}
 use Rattle.words.specs.Word.{bit, with, without, low, minus, lowest}
 use Rattle.words.specs.Sum.{sum}
 use Rattle.words.proofs.Bits.{ext, half-lt, bit-lt, bit-cases, bit-zero, bit-suc, bit-half, bit-empty, bit-high, bit-and, bit-and-mul, bit-or, bit-minus, bit-low, bit-low-high, low-lt, bit-single, bit-single-other, bit-with, bit-with-other, bit-without, bit-without-other, without-zero, without-suc, without-le, with-zero, with-suc, at-slot}
-use Rattle.words.proofs.Sums.{sum-zero, sum-suc, sum-front, sum-cong, sum-le, sum-add, sum-none, sum-pick}
+use Rattle.words.proofs.Sums.{sum-front, sum-cong, sum-le, sum-add, sum-none, sum-pick}
 
 -- ---- sizes
 

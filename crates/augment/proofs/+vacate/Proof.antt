@@ -1,6 +1,5 @@
 -- `augment::vacate` meets its contract. What falls is the number of slots that are not seen. Assumes nothing.
-use mathlib.Core.Path.{_≡_, refl, sym, ap, _∙_}
-use mathlib.Core.List.{List}
+use mathlib.Core.Path.{refl, sym, _∙_}
 use Prim.Native.Nat.{ℕ, _<_, _-_}
 use lib.Count.{ones}
 use native.Mathlib.Omega.{arith}

@@ -2,7 +2,6 @@
 use Prim.Native.Nat.{_<_}
 use native.Mathlib.Omega.{arith}
 use borrow.Author.Needs.{needs}
-use Rattle.augment.specs.Search.{Vacated}
 use Rattle.augment.proofs.Searches.{at-once-lt, at-once, assign-vacatable, assign-barred, assign-found}
 use Rattle.augment.proofs.assign.Statement.{statement}
 use Rattle.augment.proofs.assign.Tie as tie

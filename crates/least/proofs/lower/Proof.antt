@@ -2,7 +2,7 @@
 use mathlib.Core.Path.{refl}
 use native.Mathlib.Omega.{arith}
 use Prim.Native.Nat.{_<_}
-use Rattle.least.proofs.Shifts.{Lowering, lower-slot, lowering-start, lowering-slot, lowering-shiftable, lowering-none, lowering-stuck, lowering-turn, lowering-zero}
+use Rattle.least.proofs.Shifts.{Lowering, lowering-start, lowering-slot, lowering-shiftable, lowering-none, lowering-stuck, lowering-turn, lowering-zero}
 use borrow.Author.Needs.{needs}
 use Rattle.least.proofs.lower.Statement.{statement}
 use Rattle.least.proofs.lower.Tie as tie

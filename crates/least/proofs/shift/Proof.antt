@@ -1,5 +1,4 @@
 -- `least::shift` meets its contract: item x leaves its slot, and the search finds it another. Assumes nothing.
-use native.Mathlib.Omega.{arith}
 use Rattle.least.proofs.Shifts.{shift-slot, shift-assignable, shift-found, shift-stuck}
 use borrow.Author.Needs.{needs}
 use Rattle.least.proofs.shift.Statement.{statement}

@@ -1,7 +1,6 @@
 -- `maximum::deficient_set` meets its contract: what is gathered, with the holders of the slots that are left, is the set.
 -- Assumes nothing.
 use Prim.Native.Nat.{_<_}
-use native.Mathlib.Omega.{arith}
 use borrow.Author.Needs.{needs}
 use Rattle.maximum.proofs.Deficient.{Gathering, gathering-start, gathering-slot, gathering-item, gathering-turn, gathering-end}
 use Rattle.maximum.proofs.deficient_set.Statement.{statement}

@@ -1,11 +1,9 @@
 -- `maximum::fill` meets its contract: a turn gives the lowest item that is left a slot, or adds it to the exposed ones.
 -- Assumes nothing.
-use mathlib.Core.Path.{_≡_}
 use native.Mathlib.Omega.{arith}
 use borrow.Author.Needs.{needs}
 use Prim.Native.Nat.{_<_}
 use lib.ListN.{length}
-use Rattle.augment.specs.Search.{Assignable}
 use Rattle.maximum.proofs.Filling.{Filling, filling-start, filling-end, filling-item, filling-less, filling-assignable, filling-found, filling-failed}
 use Rattle.maximum.proofs.fill.Statement.{statement}
 use Rattle.maximum.proofs.fill.Tie as tie

@@ -1,5 +1,4 @@
 -- `next::adopt` meets its contract: both tests together say that the record is a plan. Assumes nothing.
-use mathlib.Core.Path.{_≡_, refl}
 use mathlib.Core.Bool.{false≢true}
 use Prim.Native.Nat.{ℕ, _<_, _^_}
 use native.Mathlib.Omega.{arith}

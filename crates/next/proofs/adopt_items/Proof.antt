@@ -1,5 +1,5 @@
 -- `next::adopt_items` meets its contract: each turn adopts an item, or shows that the record is no plan. Assumes nothing.
-use mathlib.Core.Path.{_≡_, refl, sym, _∙_}
+use mathlib.Core.Path.{_≡_, sym, _∙_}
 use mathlib.Core.Bool.{false≢true}
 use Prim.Native.Nat.{ℕ, _<_, _≤_, _-_, _^_}
 use native.Mathlib.Omega.{arith}

@@ -1,7 +1,6 @@
 -- `next::advance` meets its contract: an item that can not climb joins the stuck ones, the first that can gives the next plan. Assumes nothing.
 use mathlib.Core.Path.{refl}
 use native.Mathlib.Omega.{arith}
-use Prim.Native.Nat.{_<_}
 use Rattle.next.proofs.Advances.{Advancing, advancing-start, advancing-slot, advancing-sinkable, advancing-stuck, advancing-below, advancing-settleable, advancing-found, advancing-end}
 use borrow.Author.Needs.{needs}
 use Rattle.next.proofs.advance.Statement.{statement}
