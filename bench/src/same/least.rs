@@ -47,9 +47,8 @@ pub fn lower(
     Found { at: s, word: f }
 }
 
-// For each item from `from` on, the slots open to the items after it.
-pub fn later(opens: &[u64], from: usize) -> [u64; 64] {
-    let mut table = [0u64; 64];
+// `table` gets, for each item from `from` on, the slots open to the items after it.
+pub fn later(opens: &[u64], from: usize, table: &mut [u64; 64]) {
     let mut all: u64 = 0;
     let mut i = opens.len();
     while i > from {
@@ -57,7 +56,6 @@ pub fn later(opens: &[u64], from: usize) -> [u64; 64] {
         table[i] = all;
         all = all | opens[i];
     }
-    table
 }
 
 // Whether an item may leave its slot s at all, with the items before it left alone: only if an item after it may use s, or it or one
@@ -86,7 +84,8 @@ pub fn sink(
 
 // The items from `from` on get, one after the other, their least slots; `keep` are the slots of the items before.
 pub fn settle(opens: &[u64], owner: &mut [u8; 64], slot: &mut [u8; 64], free: u64, from: usize, keep: u64) {
-    let table = later(opens, from);
+    let mut table = [0u64; 64];
+    later(opens, from, &mut table);
     let mut f = free;
     let mut kept = keep;
     let mut i = from;

@@ -21,12 +21,16 @@ pub fn fill(opens: &[u64], owner: &mut [u8; 64], slot: &mut [u8; 64], free: u64,
         let x = words::lowest(left);
         left = words::without_lowest(left);
         let cand = words::minus(opens[x], dead);
-        let r = augment::assign(opens, owner, slot, f, x, cand, dead);
-        if r.at == 64 {
+        if cand == 0 {
             exposed = words::with(exposed, x);
-            dead = r.word;
         } else {
-            f = r.word;
+            let r = augment::assign(opens, owner, slot, f, x, cand, dead);
+            if r.at == 64 {
+                exposed = words::with(exposed, x);
+                dead = r.word;
+            } else {
+                f = r.word;
+            }
         }
     }
     Maximum { free: f, exposed: exposed, dead: dead }

@@ -6,7 +6,7 @@ use mathlib.Core.List.{List}
 use Prim.Native.Nat.{ℕ, _+_, _-_, _^_, _≤_, _<_, min}
 use native.Mathlib.Nat.{le-trans}
 use native.Mathlib.Omega.{arith}
-use lib.Bits.{bitAnd, bitOr, and-le-l}
+use lib.Bits.{bitAnd, bitOr, and-le-l, or-lt}
 use lib.ListN.{getD, replicate, length-replicate, getD-replicate}
 use Rattle.words.specs.Word.{bit, low, minus, lowest}
 use Rattle.words.specs.Sum.{sum}
@@ -154,15 +154,38 @@ module _ {w o : List ℕ} {f : ℕ} {a : List ℕ} {rest path set out : ℕ} (P 
               );
         }
 
--- what the rest of the search brings is what the whole brings
-pub grown-through : {w o : List ℕ} {f rest path path₁ set set₀ set₁ out out₀ out₁ rest₁ rest₂ set₂ out₂ : ℕ} {a₁ a₂ : List ℕ}
-    → Grown w o f rest path₁ set₀ out₀ a₁ rest₁ set₁ out₁ → Grown w o f rest₁ path (bitOr set set₁) (bitOr out out₁) a₂ rest₂ set₂ out₂
-    → Grown w o f rest path set out a₂ rest₂ set₂ out₂
-grown-through {set = set} {set₁ = set₁} {out = out} {out₁ = out₁} G H =
+-- ---- the turns of `grow`: the search has come to left, all and reach, and what it brings from there it brings for the whole
+
+pub record Turns (w o : List ℕ) (f rest path set out : ℕ) (a : List ℕ) (left all reach next : ℕ) : Type 0 where
+  pub growing : Growing w o f a left path all reach
+  pub fewer : unseen left path all ≤ unseen rest path set
+  pub left-fits : left < 2 ^ 64
+  pub all-fits : all < 2 ^ 64
+  pub next-is : next ≡ minus (bitAnd left reach) all
+  pub whole : {a′ : List ℕ} {rest′ set′ out′ : ℕ} → Grown w o f left path all reach a′ rest′ set′ out′ → Grown w o f rest path set out a′ rest′ set′ out′
+
+pub turns-start : {w o : List ℕ} {f rest path set out next : ℕ} {a : List ℕ} → Growing w o f a rest path set out → rest < 2 ^ 64 → set < 2 ^ 64
+    → next ≡ minus (bitAnd rest out) set → Turns w o f rest path set out a rest set out next
+turns-start G hr hs e = record { growing = G; fewer = omega arith; left-fits = hr; all-fits = hs; next-is = e; whole = λ H. H }
+
+-- slot k has brought left′, set′ and out′
+pub turns-on : {w o : List ℕ} {f rest path set out left all reach next next′ k left′ set′ out′ : ℕ} {a a′ : List ℕ}
+    → Turns w o f rest path set out a left all reach next → Step w o f a left path all reach k
+    → Grown w o f left (bitOr path all) (2 ^ k) (getD w (own o k) 0) a′ left′ set′ out′ → left′ < 2 ^ 64 → set′ < 2 ^ 64
+    → next′ ≡ minus (bitAnd left′ (bitOr reach out′)) (bitOr all set′) → Turns w o f rest path set out a′ left′ (bitOr all set′) (bitOr reach out′) next′
+turns-on {all = all} {reach = reach} {set′ = set′} {out′ = out′} T S G hl hs e =
+    let r = S .again G in
     record {
-      growing = H .growing;
-      less = λ i h. le-trans (H .less i h) (G .less i h);
-      kept = λ i h. omega (arith, H .kept i h, bit-or set set₁ i);
-      led = λ i h. omega (arith, H .led i h, bit-or out out₁ i);
-      back = H .back;
+      growing = r .1;
+      fewer = omega (arith, r .0, T .fewer);
+      left-fits = hl;
+      all-fits = or-lt 64 all set′ (T .all-fits) hs;
+      next-is = e;
+      whole = λ H. T .whole (record {
+        growing = H .growing;
+        less = λ i h. le-trans (H .less i h) (G .less i h);
+        kept = λ i h. omega (arith, H .kept i h, bit-or all set′ i);
+        led = λ i h. omega (arith, H .led i h, bit-or reach out′ i);
+        back = H .back;
+      });
     }

@@ -43,44 +43,41 @@ fn grow(
     requires { ⌜ Saturating (now opens) (now owner) free × Growing (now opens) (now owner) free (now allowed) rest path set out ⌝ }
     ensures { λ r. ⌜ Grown (now (opens .entry)) (now (owner .entry)) free rest path set out (now (allowed .exit)) (r .rest) (r .set) (r .out) ⌝ }
 {
-    let next = words::minus(rest & out, set);
-    if next == 0 {
-        mark(opens, owner, allowed, set, words::minus(set, free));
-        return Part {
-            rest: words::minus(rest, set),
-            set: 0,
-            out: 0,
-        };
+    let mut left = rest;
+    let mut all = set;
+    let mut reach = out;
+    let mut next = words::minus(left & reach, all);
+    while next != 0 {
+        if next & path != 0 {
+            return Part {
+                rest: left,
+                set: all,
+                out: reach,
+            };
+        }
+        let k = words::lowest(next);
+        let y = augment::holder(owner, k);
+        let r = grow(
+            opens,
+            owner,
+            free,
+            allowed,
+            left,
+            path | all,
+            words::single(k),
+            opens[y],
+        );
+        left = r.rest;
+        all = all | r.set;
+        reach = reach | r.out;
+        next = words::minus(left & reach, all);
     }
-    if next & path != 0 {
-        return Part {
-            rest: rest,
-            set: set,
-            out: out,
-        };
+    mark(opens, owner, allowed, all, words::minus(all, free));
+    Part {
+        rest: words::minus(left, all),
+        set: 0,
+        out: 0,
     }
-    let k = words::lowest(next);
-    let y = augment::holder(owner, k);
-    let r = grow(
-        opens,
-        owner,
-        free,
-        allowed,
-        rest,
-        path | set,
-        words::single(k),
-        opens[y],
-    );
-    grow(
-        opens,
-        owner,
-        free,
-        allowed,
-        r.rest,
-        path,
-        set | r.set,
-        out | r.out,
-    )
 }
 
 // For each item the slots that some complete plan gives it. The first set is the free slots, which lead to every slot; where there is

@@ -18,7 +18,7 @@ use Rattle.augment.specs.Search.{Within}
 use Rattle.augment.proofs.Moves.{same-or}
 use Rattle.augment.proofs.Bars.{Shut, Agrees, slot-lt}
 use Rattle.augment.proofs.Completes.{complete-plan}
-use Rattle.least.specs.Least.{Kept, Lowerable, Lowered, After, Later, Prefix, Sinkable, Settleable, Same-to, Settled}
+use Rattle.least.specs.Least.{Kept, Lowerable, Lowered, After, Prefix, Sinkable, Settleable, Same-to, Settled}
 use Rattle.least.proofs.Shifts.{own-slot, held-without, closed-bars}
 
 -- ---- later: from the last item down to i
@@ -213,8 +213,8 @@ settling-end w p₀ from o p f keep i S h =
     record { plan = complete-plan w o p f (S .before .complete); same = S .same; least = λ x l g. S .least x l (omega (arith, S .high)) }
 
 module _ (w p₀ : List ℕ) (from : ℕ) (o p : List ℕ) (f keep i : ℕ) (S : Settling w p₀ from o p f keep i) (more : i < length w) where
-  pub settling-sinkable : (table : List ℕ) (after : ℕ) → Later w from table → after ≡ getD table i 0 → Sinkable w o p f i after keep
-  settling-sinkable table after L e = record { before = S .before; known = more; later = rw e (L i (S .low) more) }
+  pub settling-sinkable : {after : ℕ} → After w i after → Sinkable w o p f i after keep
+  settling-sinkable A = record { before = S .before; known = more; later = A }
 
   module _ (o′ p′ : List ℕ) (f′ k : ℕ) (H : Lowered w o i (getD w i 0) keep o′ p′ f′ k) where
     P : Prefix w o p f i keep

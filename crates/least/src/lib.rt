@@ -62,12 +62,11 @@ pub fn lower(
     Found { at: s, word: f }
 }
 
-// For each item from `from` on, the slots open to the items after it.
-pub fn later(opens: &[u64], from: usize) -> [u64; 64]
-    requires { ⌜ length (now opens) ≤ 64 ⌝ }
-    ensures { λ r. ⌜ Later (now (opens .entry)) from r ⌝ }
+// `table` gets, for each item from `from` on, the slots open to the items after it.
+pub fn later(opens: &[u64], from: usize, table: &mut [u64; 64])
+    requires { ⌜ (length (now opens) ≤ 64) × (length (now table) ≡ 64) ⌝ }
+    ensures { λ _. ⌜ Later (now (opens .entry)) from (now (table .exit)) ⌝ }
 {
-    let mut table = [0u64; 64];
     let mut all: u64 = 0;
     let mut i = opens.len();
     while i > from {
@@ -75,7 +74,6 @@ pub fn later(opens: &[u64], from: usize) -> [u64; 64]
         table[i] = all;
         all = all | opens[i];
     }
-    table
 }
 
 // Whether an item may leave its slot s at all, with the items before it left alone: only if an item after it may use s, or it or one
@@ -120,7 +118,8 @@ pub fn settle(
     requires { ⌜ Settleable (now opens) (now owner) (now slot) free from keep ⌝ }
     ensures { λ _. ⌜ Settled (now (opens .entry)) (now (slot .entry)) from (now (slot .exit)) ⌝ }
 {
-    let table = later(opens, from);
+    let mut table = [0u64; 64];
+    later(opens, from, &mut table);
     let mut f = free;
     let mut kept = keep;
     let mut i = from;

@@ -168,6 +168,18 @@ module _ (w : List ℕ) (wanting : ℕ) (o p : List ℕ) (f e d left x rest cand
           };
         }
 
+    -- all its slots are dead
+    pub filling-none : (e′ : ℕ) → cand ≡ 0 → e′ ≡ with e x → Filling w wanting o p f e′ d rest
+    filling-none e′ z ee =
+        stays d e′ (F .dead .fits) ee
+        (record {
+          kept = λ k h. omega arith;
+          all = λ k h. omega (arith, ap (λ y. bit y k) z, bit-empty k);
+          held = F .dead .held;
+          shut = λ k h b n. absurd (omega arith);
+          least = λ g i a c. i;
+        })
+
     pub filling-failed : (o′ p′ : List ℕ) (t e′ : ℕ) → t < 2 ^ 64 → e′ ≡ with e x → Same o p o′ p′ × Barred w o f cand d t → Filling w wanting o′ p′ f e′ t rest
     filling-failed o′ p′ t e′ ht ee r = rw (r .0 .owner, r .0 .slot) (stays t e′ ht ee (r .1))
 

@@ -36,12 +36,16 @@ pub fn fill(
         let x = words::lowest(left);
         left = words::without_lowest(left);
         let cand = words::minus(opens[x], dead);
-        let r = augment::assign(opens, owner, slot, f, x, cand, dead);
-        if r.at == 64 {
+        if cand == 0 {
             exposed = words::with(exposed, x);
-            dead = r.word;
         } else {
-            f = r.word;
+            let r = augment::assign(opens, owner, slot, f, x, cand, dead);
+            if r.at == 64 {
+                exposed = words::with(exposed, x);
+                dead = r.word;
+            } else {
+                f = r.word;
+            }
         }
     }
     Maximum {

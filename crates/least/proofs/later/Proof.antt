@@ -1,5 +1,4 @@
 -- `least::later` meets its contract: the words of the items passed are gathered from the last item down. Assumes nothing.
-use mathlib.Core.Path.{refl}
 use native.Mathlib.Omega.{arith}
 use Rattle.least.proofs.Settles.{Gathered, gathered-start, gathered-turn}
 use Rattle.least.proofs.later.Statement.{statement}
@@ -12,7 +11,7 @@ abbrev μ-loop : tie.MeasureT-loop
 μ-loop opens from table₀ all₀ i₀ table all i = i
 
 loop-holds : tie.Need-loop-holds Inv-loop μ-loop
-loop-holds c = gathered-start _ _ refl
+loop-holds c = gathered-start _ _ (c .pre .1)
 
 sub-i : tie.Need-sub-i Inv-loop μ-loop
 sub-i c = omega arith
@@ -20,8 +19,8 @@ sub-i c = omega arith
 mul-table : tie.Need-mul-table Inv-loop μ-loop
 mul-table c = omega arith
 
-array-write-table : tie.Need-array-write-table Inv-loop μ-loop
-array-write-table c = omega arith
+element-write-table : tie.Need-element-write-table Inv-loop μ-loop
+element-write-table c = omega arith
 
 mul-all : tie.Need-mul-all Inv-loop μ-loop
 mul-all c = omega arith
@@ -33,7 +32,7 @@ loop-less : tie.Need-loop-less Inv-loop μ-loop
 loop-less c = omega arith
 
 loop-again : tie.Need-loop-again Inv-loop μ-loop
-loop-again c = let l = c .before .before in gathered-turn _ _ _ _ (l .before .pre) (l .loop .inv) (omega arith)
+loop-again c = let l = c .before .before in gathered-turn _ _ _ _ (l .before .pre .0) (l .loop .inv) (omega arith)
 
 returns : tie.Need-returns Inv-loop μ-loop
 returns c = λ x h g. c .before .loop .inv .words x (omega arith) g
@@ -47,7 +46,7 @@ later-spec =
     loop-holds
     sub-i
     mul-table
-    array-write-table
+    element-write-table
     mul-all
     shared-slice-read-all
     loop-less

@@ -14,10 +14,10 @@ abbrev μ-loop : tie.MeasureT-loop
 μ-loop opens owner₀ slot₀ free from keep table f₀ kept₀ i₀ owner slot f kept i = length opens - i
 
 later-requires : tie.Need-later-requires Inv-loop μ-loop
-later-requires c κs = c .before .pre .before .complete .table .few
+later-requires c κs = (c .before .before .pre .before .complete .table .few, refl)
 
 loop-holds : tie.Need-loop-holds Inv-loop μ-loop
-loop-holds c = settling-start _ _ _ _ _ _ (c .before .before .pre)
+loop-holds c = settling-start _ _ _ _ _ _ (c .before .before .before .pre)
 
 mul-after : tie.Need-mul-after Inv-loop μ-loop
 mul-after c = omega (arith, c .before .loop .inv .before .complete .table .few)
@@ -28,7 +28,8 @@ array-read-after c = omega (arith, c .before .loop .inv .before .complete .table
 sink-requires : tie.Need-sink-requires Inv-loop μ-loop
 sink-requires c κs =
     let l = c .before .before .before in
-    settling-sinkable _ _ _ _ _ _ _ _ (l .loop .inv) (c .before .before .loop-test .taken) (l .before .later .result) _ (l .before .later .ensures) refl
+    let t = c .before .before .loop-test .taken in
+    settling-sinkable _ _ _ _ _ _ _ _ (l .loop .inv) t (l .before .later .ensures _ (l .loop .inv .low) t)
 
 with-requires : tie.Need-with-requires Inv-loop μ-loop
 with-requires c κs =

@@ -4,7 +4,7 @@ use native.Mathlib.Omega.{arith}
 use borrow.Author.Needs.{needs}
 use Prim.Native.Nat.{_<_}
 use lib.ListN.{length}
-use Rattle.maximum.proofs.Filling.{Filling, filling-start, filling-end, filling-item, filling-less, filling-assignable, filling-found, filling-failed}
+use Rattle.maximum.proofs.Filling.{Filling, filling-start, filling-end, filling-item, filling-less, filling-assignable, filling-found, filling-none, filling-failed}
 use Rattle.maximum.proofs.fill.Statement.{statement}
 use Rattle.maximum.proofs.fill.Tie as tie
 
@@ -37,39 +37,55 @@ shared-slice-read-minus c = item (c .before)
 minus-requires : tie.Need-minus-requires Inv-loop μ-loop
 minus-requires c κs = search needs
 
-assign-requires : tie.Need-assign-requires Inv-loop μ-loop
-assign-requires c κs =
-    let m = c .before .before in
-    let v = m .before .before in
-    filling-assignable _ _ _ _ _ _ _ _ _ _ _ (v .before .before .before .loop .inv) (v .before .before .loop-test .taken) (v .before .lowest .ensures) (v .without-lowest .ensures)
-    (m .minus .ensures)
-
-with-requires : tie.Need-with-requires Inv-loop μ-loop
-with-requires c κs = let v = c .before .before .before .before .before .before .before in omega (arith, item v, v .before .before .before .loop .inv .table .few)
-
 less : (c : tie.After-without-lowest Inv-loop μ-loop) → c .without-lowest .result < c .before .before .before .loop .left
 less c =
     filling-less _ _ _ _ _ _ _ _ _ _ 0 (c .before .before .before .loop .inv) (c .before .before .loop-test .taken) (c .before .lowest .ensures) (c .without-lowest .ensures)
 
+below : (c : tie.After-without-lowest Inv-loop μ-loop) → c .before .lowest .result < 64
+below c = omega (arith, item c, c .before .before .before .loop .inv .table .few)
+
+with-requires : tie.Need-with-requires Inv-loop μ-loop
+with-requires c κs = below (c .before .before .before)
+
 loop-less : tie.Need-loop-less Inv-loop μ-loop
-loop-less c = less (c .before .before .before .before .before .before .before .before)
+loop-less c = less (c .before .before .before .before)
 
 loop-again : tie.Need-loop-again Inv-loop μ-loop
 loop-again c =
-    let m = c .before .before .before .before .before .before in
+    let m = c .before .before in
     let v = m .before .before in
-    filling-failed _ _ _ _ _ _ _ _ _ _ _ (v .before .before .before .loop .inv) (v .before .before .loop-test .taken) (v .before .lowest .ensures) (v .without-lowest .ensures)
-    (m .minus .ensures) _ _ _ _ (search needs) (c .with .ensures) (c .before .before .before .assign .ensures .1 (c .before .if1 .taken))
+    filling-none _ _ _ _ _ _ _ _ _ _ _ (v .before .before .before .loop .inv) (v .before .before .loop-test .taken) (v .before .lowest .ensures) (v .without-lowest .ensures)
+    (m .minus .ensures) _ (c .before .if1 .taken) (c .with .ensures)
+
+assign-requires : tie.Need-assign-requires Inv-loop μ-loop
+assign-requires c κs =
+    let m = c .before .before .before in
+    let v = m .before .before in
+    filling-assignable _ _ _ _ _ _ _ _ _ _ _ (v .before .before .before .loop .inv) (v .before .before .loop-test .taken) (v .before .lowest .ensures) (v .without-lowest .ensures)
+    (m .minus .ensures)
+
+with-requires-2 : tie.Need-with-requires-2 Inv-loop μ-loop
+with-requires-2 c κs = below (c .before .before .before .before .before .before .before .before)
 
 loop-less-2 : tie.Need-loop-less-2 Inv-loop μ-loop
-loop-less-2 c = less (c .before .before .before .before .before .before .before)
+loop-less-2 c = less (c .before .before .before .before .before .before .before .before .before)
 
 loop-again-2 : tie.Need-loop-again-2 Inv-loop μ-loop
 loop-again-2 c =
-    let m = c .before .before .before .before .before in
+    let m = c .before .before .before .before .before .before .before in
+    let v = m .before .before in
+    filling-failed _ _ _ _ _ _ _ _ _ _ _ (v .before .before .before .loop .inv) (v .before .before .loop-test .taken) (v .before .lowest .ensures) (v .without-lowest .ensures)
+    (m .minus .ensures) _ _ _ _ (search needs) (c .with2 .ensures) (c .before .before .before .assign .ensures .1 (c .before .if2 .taken))
+
+loop-less-3 : tie.Need-loop-less-3 Inv-loop μ-loop
+loop-less-3 c = less (c .before .before .before .before .before .before .before .before)
+
+loop-again-3 : tie.Need-loop-again-3 Inv-loop μ-loop
+loop-again-3 c =
+    let m = c .before .before .before .before .before .before in
     let v = m .before .before in
     filling-found _ _ _ _ _ _ _ _ _ _ _ (v .before .before .before .loop .inv) (v .before .before .loop-test .taken) (v .before .lowest .ensures) (v .without-lowest .ensures)
-    (m .minus .ensures) _ _ _ _ (c .before .before .assign .ensures .0 (c .if1 .left))
+    (m .minus .ensures) _ _ _ _ (c .before .before .assign .ensures .0 (c .if2 .left))
 
 returns : tie.Need-returns Inv-loop μ-loop
 returns c = filling-end _ _ _ _ _ _ _ _ (c .before .loop .inv) (c .loop-test .left)
@@ -86,10 +102,13 @@ fill-spec =
     mul-minus
     shared-slice-read-minus
     minus-requires
-    assign-requires
     with-requires
     loop-less
     loop-again
+    assign-requires
+    with-requires-2
     loop-less-2
     loop-again-2
+    loop-less-3
+    loop-again-3
     returns)
