@@ -100,7 +100,9 @@ pub fn vacate(
     if layer == 0 {
         return Found { at: 64, word: seen };
     }
-    let r = vacate(opens, owner, slot, free, layer, seen | layer);
+    // cut anew, the slice stays in registers here; handed on as it is, it would go through memory at each call
+    let all = opens.len();
+    let r = vacate(&opens[..all], owner, slot, free, layer, seen | layer);
     if r.at == 64 {
         return r;
     }

@@ -1,7 +1,9 @@
 -- `augment::vacate` meets its contract. What falls is the number of slots that are not seen. Assumes nothing.
-use mathlib.Core.Path.{refl, sym, _∙_}
+use mathlib.Core.Path.{refl, sym, ap, _∙_}
 use Prim.Native.Nat.{ℕ, _<_, _-_}
 use lib.Count.{ones}
+use lib.ListN.{length}
+use lib.Seq.{take-length}
 use native.Mathlib.Omega.{arith}
 use borrow.Author.Needs.{needs}
 use borrow.Fn.Kinds.{In}
@@ -62,17 +64,17 @@ module _ (t : ℕ) where
   After-pass-arg4 = vacate-lts.After-pass-arg4 (claims t) (vacate-at t) vacate.Post
 
   abbrev start13 : After-pass-arg4 → Start
-  start13 c = c .before .before .before .before .before .before .before .before .before .before .before .before .before
+  start13 c = c .before .before .before .before .before .before .before .before .before .before .before .before .before .before
 
   -- a slot of the layer was made free
   onward : (c : After-pass-arg4) → let v = c .before .before .before .before .vacate in let a = start13 c .args in
       Passable (a .opens .now) (v .last .1 .0) (v .last .1 .1 .0) (v .result .word) (a .set) (v .result .at)
   onward c =
       let s = start13 c in
-      let p = c .before .before .before .before .before .before .before .before .before .before .span .ensures in
-      let l = c .before .before .before .before .before .before .before .before .minus .ensures in
-      next-passable _ _ _ _ _ _ (s .fits .seen .fits) (s .pre .1) (rw p at (c .before .before .before .before .before .before .before .before .before .if1 .left)) _ _ _ _
-      (rw (l, p) at (c .before .before .before .before .vacate .ensures .0 (c .before .before .if3 .left)))
+      let p = c .before .before .before .before .before .before .before .before .before .before .before .span .ensures in
+      let l = c .before .before .before .before .before .before .before .before .before .minus .ensures in
+      next-passable _ _ _ _ _ _ (s .fits .seen .fits) (s .pre .1) (rw p at (c .before .before .before .before .before .before .before .before .before .before .if1 .left)) _ _ _ _
+      (rw (l, p, take-length (s .args .opens .now)) at (c .before .before .before .before .vacate .ensures .0 (c .before .before .if3 .left)))
 
   span-requires : vacate-lts.Need-span-requires (claims t) (vacate-at t) vacate.Post
   span-requires c κs = vacate-owners _ _ _ _ _ _ (c .before .before .fits .seen .fits) (c .before .before .pre .1)
@@ -103,25 +105,28 @@ module _ (t : ℕ) where
         ),
       )
 
+  slice-aggregate-vacate : vacate-lts.Need-slice-aggregate-vacate (claims t) (vacate-at t) vacate.Post
+  slice-aggregate-vacate c = let s = c .before .before .before .before .before .before .before in sym (ap length (take-length (s .args .opens .now)))
+
   vacate-requires : vacate-lts.Need-vacate-requires (claims t) (vacate-at t) vacate.Post
   vacate-requires c κs =
-      let s = c .before .before .before .before .before .before .before .before in
-      let p = c .before .before .before .before .before .span .ensures in
-      let l = c .before .before .before .minus .ensures in
-      let none = rw p at (c .before .before .before .before .if1 .left) in
-      let some = rw (l, p) at (c .before .before .if2 .left) in
-      rw (l, p) (omega (arith, s .pre .0, next-more _ _ _ _ _ _ (s .fits .seen .fits) (s .pre .1) none some), next-vacatable _ _ _ _ _ _ (s .fits .seen .fits) (s .pre .1) none)
+      let s = c .before .before .before .before .before .before .before .before .before in
+      let p = c .before .before .before .before .before .before .span .ensures in
+      let l = c .before .before .before .before .minus .ensures in
+      let none = rw p at (c .before .before .before .before .before .if1 .left) in
+      let some = rw (l, p) at (c .before .before .before .if2 .left) in
+      rw (l, p, take-length (s .args .opens .now)) (omega (arith, s .pre .0, next-more _ _ _ _ _ _ (s .fits .seen .fits) (s .pre .1) none some), next-vacatable _ _ _ _ _ _ (s .fits .seen .fits) (s .pre .1) none)
 
   returns-3 : vacate-lts.Need-returns-3 (claims t) (vacate-at t) vacate.Post
   returns-3 c =
-      let s = c .before .before .before .before .before .before .before .before .before .before .before in
-      let p = c .before .before .before .before .before .before .before .before .span .ensures in
-      let l = c .before .before .before .before .before .before .minus .ensures in
-      let none = rw p at (c .before .before .before .before .before .before .before .if1 .left) in (
+      let s = c .before .before .before .before .before .before .before .before .before .before .before .before in
+      let p = c .before .before .before .before .before .before .before .before .before .span .ensures in
+      let l = c .before .before .before .before .before .before .before .minus .ensures in
+      let none = rw p at (c .before .before .before .before .before .before .before .before .if1 .left) in (
         λ n. absurd (n (c .if3 .taken)),
         λ e.
             let r = c .before .before .vacate .ensures .1 e in
-            (r .0, next-closed _ _ _ _ _ _ (s .fits .seen .fits) (s .pre .1) none _ (rw (l, p) at (r .1))),
+            (r .0, next-closed _ _ _ _ _ _ (s .fits .seen .fits) (s .pre .1) none _ (rw (l, p, take-length (s .args .opens .now)) at (r .1))),
       )
 
   pass-requires-2 : vacate-lts.Need-pass-requires-2 (claims t) (vacate-at t) vacate.Post
@@ -132,10 +137,10 @@ module _ (t : ℕ) where
     λ n.
         let d = c .before in
         let s = start13 d in
-        let p = d .before .before .before .before .before .before .before .before .before .before .span .ensures in
-        let l = d .before .before .before .before .before .before .before .before .minus .ensures in
-        next-vacated _ _ _ _ _ _ (s .fits .seen .fits) (s .pre .1) (rw p at (d .before .before .before .before .before .before .before .before .before .if1 .left)) _ _ _ _
-        (rw (l, p) at (d .before .before .before .before .vacate .ensures .0 (d .before .before .if3 .left))) _ _ _ _ (c .pass2 .ensures),
+        let p = d .before .before .before .before .before .before .before .before .before .before .before .span .ensures in
+        let l = d .before .before .before .before .before .before .before .before .before .minus .ensures in
+        next-vacated _ _ _ _ _ _ (s .fits .seen .fits) (s .pre .1) (rw p at (d .before .before .before .before .before .before .before .before .before .before .if1 .left)) _ _ _ _
+        (rw (l, p, take-length (s .args .opens .now)) at (d .before .before .before .before .vacate .ensures .0 (d .before .before .if3 .left))) _ _ _ _ (c .pass2 .ensures),
     λ e. absurd (omega (arith, c .pass2 .ensures .below)),
   )
 
@@ -147,6 +152,7 @@ pub +vacate-spec : {M : Type 1} → statement M
     (returns t)
     (minus-requires t)
     (returns-2 t)
+    (slice-aggregate-vacate t)
     (vacate-requires t)
     (returns-3 t)
     (pass-requires-2 t)
