@@ -2,7 +2,7 @@ pub mod Calls
 pub mod Counting
 pub mod Enumerating
 pub mod Rates
-pub mod Demand3
+pub mod Demand3OfCalls
 pub mod OnFiles
 pub mod Buffers
 pub mod Pricing

@@ -1,2 +1,2 @@
 pub mod Step
-pub mod Demand3
+pub mod Demand3OfCalls

@@ -3,19 +3,18 @@
 use mathlib.Core.Path.{_≡_}
 use mathlib.Core.Logic.{_↔_}
 use mathlib.Core.Bool.{false}
-use mathlib.Core.List.{List, [], _∷_, map, List·Memᴰ}
-use Prim.Native.Nat.{ℕ, _<_, min}
-use lib.Dec.{T}
-use lib.ListN.{length, getD, take, replicate}
+use mathlib.Core.List.{List, [], _∷_, map}
+use Prim.Native.Nat.{ℕ, min}
+use lib.ListN.{length, take, replicate}
 use Rattle.words.specs.Sum.{below}
 use Rattle.model.specs.declared.PlanAnswer.{PlanAnswer}
 use Rattle.model.specs.declared.CountAnswer.{CountAnswer}
 use Rattle.model.specs.declared.Enumerator.{Enumerator}
-use Rattle.model.specs.Lists.{keep, before}
 use Rattle.model.specs.Rota.{tableCode}
 use Rattle.model.specs.Plans.{plans, IsPlan}
 use Rattle.model.specs.Answers.{given, allowedCode, allowedAfter, countAnswer}
 use Rattle.model.specs.Enumerator.{Call, ours, other, howMany, enumeratorAnswer, enumeratorAfter, callAnswer, holding}
+use Rattle.model.specs.Demand3.{Demand3}
 
 -- a call of `list_plan` that was made: over which tables, what it answered, and the enumerator that it left
 pub record Made : Type 0 where
@@ -42,9 +41,9 @@ abbrev pub RefusedUnlessOurs : Call → PlanAnswer → Type 0
 RefusedUnlessOurs ours answer = Unit {0}
 RefusedUnlessOurs (other n m opens callouts) answer = (answer .code ≡ 0) → ⊥
 
-abbrev pub OthersRefused : List Made → Type 0
-OthersRefused [] = Unit {0}
-OthersRefused (c ∷ calls) = RefusedUnlessOurs (c .call) (c .answer) × OthersRefused calls
+abbrev pub EachRefusedUnlessOurs : List Made → Type 0
+EachRefusedUnlessOurs [] = Unit {0}
+EachRefusedUnlessOurs (c ∷ calls) = RefusedUnlessOurs (c .call) (c .answer) × EachRefusedUnlessOurs calls
 
 -- the answers of the calls over the one rota, in order
 unfoldable pub ownAnswer : Call → PlanAnswer → List PlanAnswer → List PlanAnswer
@@ -72,19 +71,15 @@ Lists n opens callouts e [] = (a : PlanAnswer) (e′ : Enumerator) → Met n ope
 Lists n opens callouts e (p ∷ rest) = (a : PlanAnswer) (e′ : Enumerator) → Met n opens callouts e a e′ → (a ≡ given p 0) × Lists n opens callouts e′ rest
 
 -- of an accepted rota
-pub record Demand3 (n : ℕ) (opens callouts : List ℕ) : Type 0 where
+pub record Demand3OfCalls (n : ℕ) (opens callouts : List ℕ) : Type 0 where
   -- call k over the rota, from 0, gives plan number k; where there is none 10, or 9 if the rota has no plan
-  pub each-call : (e : Enumerator) → e .started ≡ false → (calls : List Made) → Chained n opens callouts e calls → OthersRefused calls
+  pub each-call : (e : Enumerator) → e .started ≡ false → (calls : List Made) → Chained n opens callouts e calls → EachRefusedUnlessOurs calls
       → ownAnswers calls ≡ map (callAnswer n opens) (below (howMany (map (λ c. c .call) calls)))
-  -- plan number k has k complete plans before it
-  pub plans-before : (k : ℕ) → k < length (plans n opens) → length (keep (λ q. before q (getD (plans n opens) k [])) (plans n opens)) ≡ k
   -- the enumerator afterwards
-  pub afterwards : (e : Enumerator) → e .started ≡ false → (calls : List Made) → Chained n opens callouts e calls → OthersRefused calls
+  pub afterwards : (e : Enumerator) → e .started ≡ false → (calls : List Made) → Chained n opens callouts e calls → EachRefusedUnlessOurs calls
       → leftBy e calls ≡ holding n opens e (min (howMany (map (λ c. c .call) calls)) (length (plans n opens)))
-  -- the listing is the list of complete plans: every one, once
+  -- the listing is the list of complete plans
   pub listing : (e : Enumerator) → e .started ≡ false → (l : List (List ℕ)) → Lists n opens callouts e l ↔ (l ≡ plans n opens)
-  pub every-plan : (p : List ℕ) → List·Memᴰ p (plans n opens) ↔ IsPlan opens p
-  pub once : (i k : ℕ) → i < k → k < length (plans n opens) → T (before (getD (plans n opens) i []) (getD (plans n opens) k []))
   -- its length is what a successful count call gives
   pub counted : (tally : List ℕ) (r : CountAnswer) → r ≡ countAnswer n n opens callouts (length tally) → r .code ≡ 0 → r .count ≡ length (plans n opens)
   -- equal listings exactly if the words that the usable calls write are equal
@@ -92,3 +87,5 @@ pub record Demand3 (n : ℕ) (opens callouts : List ℕ) : Type 0 where
       → (plans n opens ≡ plans n opens′) ↔ (take n new ≡ take n new′)
   -- no plan: an empty listing, no usable cell
   pub no-plan : ((p : List ℕ) → IsPlan opens p → ⊥) → (plans n opens ≡ []) × ((old new : List ℕ) → Usable n opens callouts old new → take n new ≡ replicate n 0)
+  -- model's: plan number k has k complete plans before it, and the list of complete plans holds every one, once
+  pub plans : Demand3 n n opens callouts

@@ -10,13 +10,12 @@ use Rattle.model.specs.Rota.{tableCode}
 use Rattle.model.specs.Plans.{plans}
 use Rattle.model.specs.Allowed.{allowedWords}
 use Rattle.model.specs.Answers.{allowedAfter}
-use Rattle.model.specs.Enumerator.{Call, ours, other, afterCall, ourAnswers, afterCalls, IsListing, enumeratorAnswer, enumeratorAfter}
-use Rattle.model.specs.Enumerator as model
+use Rattle.model.specs.Enumerator.{Call, ours, other, afterCall, ourAnswers, afterCalls, OthersRefused, IsListing, enumeratorAnswer, enumeratorAfter}
 use Rattle.model.proofs.Accepted.{tables-from}
 use Rattle.model.proofs.Refusals.{all-written}
 use Rattle.model.proofs.Allowed.{length-allowed}
-use Rattle.model.proofs.Listing as listing
-use Rattle.rota.specs.Demand3.{Made, MetCall, Chained, RefusedUnlessOurs, OthersRefused, ownAnswer, ownAnswers, leftBy, Usable, Lists, Demand3}
+use Rattle.model.proofs.Listing.{demand3}
+use Rattle.rota.specs.Demand3OfCalls.{Made, MetCall, Chained, RefusedUnlessOurs, EachRefusedUnlessOurs, ownAnswer, ownAnswers, leftBy, Usable, Lists, Demand3OfCalls}
 
 abbrev calls-of : List Made → List Call
 calls-of = map (λ (c : Made). c .call)
@@ -49,14 +48,14 @@ module _ (n : ℕ) (opens callouts : List ℕ) where
       left-is (x .after) calls (c .1)
       ∙ ap (λ d. afterCalls n n opens callouts d (calls-of calls)) (met-after (x .call) e (x .answer) (x .after) (c .0))
 
-  others : (e : Enumerator) (calls : List Made) → Chained n opens callouts e calls → OthersRefused calls → model.OthersRefused n n opens callouts e (calls-of calls)
+  others : (e : Enumerator) (calls : List Made) → Chained n opens callouts e calls → EachRefusedUnlessOurs calls → OthersRefused n n opens callouts e (calls-of calls)
   others e [] c r = tt
   others e (x ∷ calls) c r =
       go (x .call) (c .0) (r .0)
-      (subst (λ d. model.OthersRefused n n opens callouts d (calls-of calls)) (met-after (x .call) e (x .answer) (x .after) (c .0)) (others (x .after) calls (c .1) (r .1)))
+      (subst (λ d. OthersRefused n n opens callouts d (calls-of calls)) (met-after (x .call) e (x .answer) (x .after) (c .0)) (others (x .after) calls (c .1) (r .1)))
     where
       go : (call : Call) → MetCall n opens callouts call e (x .answer) (x .after) → RefusedUnlessOurs call (x .answer)
-          → model.OthersRefused n n opens callouts (afterCall n n opens callouts e call) (calls-of calls) → model.OthersRefused n n opens callouts e (call ∷ calls-of calls)
+          → OthersRefused n n opens callouts (afterCall n n opens callouts e call) (calls-of calls) → OthersRefused n n opens callouts e (call ∷ calls-of calls)
       go ours m u rest = rest
       go (other n′ m′ opens′ callouts′) m u rest =
           (λ z. u (ap (λ (y : PlanAnswer). y .code) (m .1 .0 ∙ ap (λ k. enumeratorAnswer e n′ k opens′ callouts′) (sym (m .0))) ∙ z), rest)
@@ -78,19 +77,16 @@ words-are n opens callouts old new ok u =
     ap (take n) (u .exit ∙ sym (all-written _ (u .success) (allowedWords n opens) old))
     ∙ take-at (allowedWords n opens) (drop (length (allowedWords n opens)) old) n (length-allowed n opens ∙ tables-from n n opens callouts ok .open-words)
 
-pub demand3 : (n : ℕ) (opens callouts : List ℕ) → tableCode n n opens callouts ≡ 0 → Demand3 n opens callouts
-demand3 n opens callouts ok =
-    let D = listing.demand3 n n opens callouts ok in
+pub demand3-of-calls : (n : ℕ) (opens callouts : List ℕ) → tableCode n n opens callouts ≡ 0 → Demand3OfCalls n opens callouts
+demand3-of-calls n opens callouts ok =
+    let D = demand3 n n opens callouts ok in
     record {
       each-call = λ e f calls c r. answers-are n opens callouts e calls c ∙ D .each-call e f (calls-of calls) (others n opens callouts e calls c r);
-      plans-before = D .plans-before;
       afterwards = λ e f calls c r. left-is n opens callouts e calls c ∙ D .afterwards e f (calls-of calls) (others n opens callouts e calls c r);
       listing = λ e f l. (
         λ h. D .listing e f l .0 (lists-from n opens callouts e l h),
         λ h. lists-into n opens callouts e l (D .listing e f l .1 h),
       );
-      every-plan = D .every-plan;
-      once = D .once;
       counted = λ tally r q z.
           ap (λ x. x .count) q ∙ D .counted (length tally) (sym (ap (λ x. x .code) q) ∙ z);
       compared = λ opens′ callouts′ ok′ old new old′ new′ u u′.
@@ -99,4 +95,5 @@ demand3 n opens callouts ok =
           let q = D .compared opens′ callouts′ ok′ in
           (λ h. a ∙ q .0 h ∙ sym b, λ h. q .1 (sym a ∙ h ∙ b));
       no-plan = λ f. let q = D .no-plan f in (q .0, λ old new u. words-are n opens callouts old new ok u ∙ q .1);
+      plans = D;
     }
