@@ -22,9 +22,9 @@ length-table : (opens : List ℕ) → length (table opens) ≡ 2 ^ length opens
 unfolding subsetCounts
 length-table opens = length-map-below (word opens) (2 ^ length opens)
 
-word-at : (opens : List ℕ) (i : ℕ) → i < 2 ^ length opens → getD (table opens) i 0 ≡ word opens i
+table-at : (opens : List ℕ) (i : ℕ) → i < 2 ^ length opens → getD (table opens) i 0 ≡ word opens i
 unfolding subsetCounts
-word-at opens i l = map-below (word opens) 0 (2 ^ length opens) i l
+table-at opens i l = map-below (word opens) 0 (2 ^ length opens) i l
 
 -- the words below s are written, the further ones are as they were, and `ways` is the word of s
 pub record Filling (opens old counts : List ℕ) (last s ways : ℕ) : Type 0 where
@@ -59,7 +59,7 @@ module _ {opens old counts : List ℕ} {last s ways : ℕ} (f : Filling opens ol
 
   stored : set counts s ways ≡ paste old 0 (table opens) (suc s)
   stored =
-      ap₂ (λ l v. set l s v) (f .filled) (f .next ∙ sym (word-at opens s (inside .0)))
+      ap₂ (λ l v. set l s v) (f .filled) (f .next ∙ sym (table-at opens s (inside .0)))
       ∙ ap (λ i. set (paste old 0 (table opens) s) i (getD (table opens) s 0)) (sym (zero-add s))
       ∙ paste-suc old 0 (table opens) s 0 (omega (arith, inside)) (inside .1)
 
@@ -72,7 +72,7 @@ module _ {opens old counts : List ℕ} {last s ways : ℕ} (f : Filling opens ol
     known = λ i h.
         let early : i < suc s = omega arith in
         let short : i < length (take (suc s) (table opens)) = omega (arith, length-take-le (suc s) (table opens) (inside .1)) in
-        rw (stored, List·getD-append, getD-take) (word-at opens i (omega (arith, inside)));
+        rw (stored, List·getD-append, getD-take) (table-at opens i (omega (arith, inside)));
   }
 
   pub more : s < last → {v : ℕ} → v ≡ word opens (s + 1) → Filling opens old (set counts s ways) last (s + 1) v

@@ -1,2 +1,2 @@
-mod Cells
+mod Callouts
 mod Room

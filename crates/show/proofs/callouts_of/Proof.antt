@@ -2,12 +2,12 @@
 use Prim.Native.Nat.{_≤_, _-_}
 use native.Mathlib.Omega.{arith}
 use lib.ListN.{length}
-use Rattle.show.proofs.Cells.{Before, none, small, one-more, all}
+use Rattle.show.proofs.Callouts.{SoFar, none, small, one-more, all}
 use Rattle.show.proofs.callouts_of.Statement.{statement}
 use Rattle.show.proofs.callouts_of.Tie as tie
 
 abbrev Inv-loop : tie.InvT-loop
-Inv-loop callouts plan total₀ i₀ total i = (i ≤ length callouts) × (length callouts ≤ 64) × Before callouts plan i total
+Inv-loop callouts plan total₀ i₀ total i = (i ≤ length callouts) × (length callouts ≤ 64) × SoFar callouts plan i total
 
 abbrev μ-loop : tie.MeasureT-loop
 μ-loop callouts plan total₀ i₀ total i = length callouts - i
