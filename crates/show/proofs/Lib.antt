@@ -1,2 +1,1 @@
 mod Callouts
-mod Room

@@ -3,7 +3,7 @@ use mathlib.Core.Path.{sym}
 use native.Mathlib.Omega.{arith}
 use borrow.Author.Needs.{needs}
 use lib.Seq.{length-take-le}
-use Rattle.show.proofs.Room.{items-fit}
+use Rattle.rota.proofs.OnFiles.{items-few, opens-fit, callouts-fit}
 use Rattle.show.proofs.show_fd.Statement.{statement}
 use Rattle.show.proofs.show_fd.Tie as tie
 
@@ -36,30 +36,31 @@ returns c = search needs
 
 array-share-prefix-opens : tie.Need-array-share-prefix-opens
 array-share-prefix-opens c =
-    let read = c .before .before .before .before .read-file in
-    omega (arith, items-fit _ _ _ _ (read .ensures .0), read .kept .1 .0)
+    let r = c .before .before .before .before .read-file .ensures in
+    opens-fit _ _ (r .0) _ _ (c .if1 .left) (r .1 .0) (r .1 .1)
 
 slice-aggregate-list : tie.Need-slice-aggregate-list
 slice-aggregate-list c =
-    let read = c .before .before .before .before .before .read-file in
-    sym (length-take-le _ _ (omega (arith, items-fit _ _ _ _ (read .ensures .0), read .kept .1 .0)))
+    let r = c .before .before .before .before .before .read-file .ensures in
+    sym (length-take-le _ _ (opens-fit _ _ (r .0) _ _ (c .before .if1 .left) (r .1 .0) (r .1 .1)))
 
 array-share-prefix-callouts : tie.Need-array-share-prefix-callouts
 array-share-prefix-callouts c =
-    let read = c .before .before .before .before .before .read-file in
-    omega (arith, items-fit _ _ _ _ (read .ensures .0), read .kept .1 .1 .0)
+    let r = c .before .before .before .before .before .read-file .ensures in
+    callouts-fit _ _ (r .0) _ _ (c .before .if1 .left) (r .1 .0) (r .1 .1)
 
 slice-aggregate-list-2 : tie.Need-slice-aggregate-list-2
 slice-aggregate-list-2 c =
-    let read = c .before .before .before .before .before .before .read-file in
-    sym (length-take-le _ _ (omega (arith, items-fit _ _ _ _ (read .ensures .0), read .kept .1 .1 .0)))
+    let r = c .before .before .before .before .before .before .read-file .ensures in
+    sym (length-take-le _ _ (callouts-fit _ _ (r .0) _ _ (c .before .before .if1 .left) (r .1 .0) (r .1 .1)))
 
 list-requires : tie.Need-list-requires
 list-requires c κs =
     let read = c .before .before .before .before .before .before .read-file in
-    let fits = items-fit _ _ _ _ (read .ensures .0) in
-    let long = length-take-le (read .result .n) (read .last .1 .1 .0) (omega (arith, fits, read .kept .1 .1 .0)) in
-    omega (arith, fits, long)
+    let r = read .ensures in
+    let z = c .before .before .if1 .left in
+    let fit = callouts-fit _ _ (r .0) _ _ z (r .1 .0) (r .1 .1) in
+    omega (arith, items-few _ _ (r .0) _ _ z (r .1 .0) (r .1 .1), length-take-le _ (read .last .1 .1 .0) fit)
 
 returns-2 : tie.Need-returns-2
 returns-2 c = search needs
