@@ -95,7 +95,7 @@ pub(crate) fn block_laid(block: &[u8], n: u8, b: usize) -> bool
     if 255 < b {
         return false;
     }
-    let k = items_of(numbers::size(n), b);
+    let k = items_of(words::wide(n), b);
     if !header_laid(&block[0..14], n, b as u8, k as u8) {
         return false;
     }

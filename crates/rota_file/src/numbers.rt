@@ -4,18 +4,6 @@ ghost use Prim.Native.Nat.{_≤_};
 ghost use lib.ListN.{length};
 ghost use Rattle.model.specs.File.{fromBytes, lowBytes, checkOf};
 
-pub(crate) fn wide(x: u8) -> u64
-    ensures { λ r. ⌜ r ≡ x ⌝ }
-{
-    x as u64
-}
-
-pub(crate) fn size(x: u8) -> usize
-    ensures { λ r. ⌜ r ≡ x ⌝ }
-{
-    x as usize
-}
-
 // The number of up to 8 bytes.
 pub(crate) fn from_bytes(bytes: &[u8]) -> u64
     requires { ⌜ length (now bytes) ≤ 8 ⌝ }
@@ -25,7 +13,7 @@ pub(crate) fn from_bytes(bytes: &[u8]) -> u64
     let mut i = bytes.len();
     while 0 < i {
         i -= 1;
-        x = 256 * x + wide(bytes[i]);
+        x = 256 * x + words::wide(bytes[i]) as u64;
     }
     x
 }
@@ -51,7 +39,7 @@ pub(crate) fn check_of(bytes: &[u8]) -> u64
     let mut sum: u64 = 0;
     let mut i = 0;
     while i < bytes.len() {
-        sum += wide(bytes[i]);
+        sum += words::wide(bytes[i]) as u64;
         i += 1;
     }
     sum % 65536

@@ -49,7 +49,7 @@ pub(crate) fn layout_code(file: &[u8]) -> u32
     if c.wrong {
         return 13;
     }
-    let n = numbers::size(file[5]);
+    let n = words::wide(file[5]);
     if n == 0 {
         return 14;
     }

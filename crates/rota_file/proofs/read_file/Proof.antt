@@ -11,22 +11,22 @@ use Rattle.rota_file.proofs.read_file.Statement.{statement}
 use Rattle.rota_file.proofs.read_file.Tie as tie
 
 -- n items have room in the file, and in the arrays
-room : (s : tie.After-size) → Room (s .before .before .before .before .before .before .before .args .file .now) (s .size .result)
+room : (s : tie.After-wide) → Room (s .before .before .before .before .before .before .before .args .file .now) (s .wide .result)
 unfolding itemsIn
-room s = let test = s .before .before in room-for _ _ (s .size .ensures) (test .before .layout-code .ensures .1 (test .if1 .left))
+room s = let test = s .before .before in room-for _ _ (s .wide .ensures) (test .before .layout-code .ensures .1 (test .if1 .left))
 
-opens-fit : (s : tie.After-words-in) → s .before .size .result ≤ length (s .words-in .result)
+opens-fit : (s : tie.After-words-in) → s .before .wide .result ≤ length (s .words-in .result)
 opens-fit s = front-fits _ _ 14 (room (s .before)) _ (s .words-in .ensures)
 
-callouts-fit : (s : tie.After-words-in2) → s .before .before .size .result ≤ length (s .words-in2 .result)
+callouts-fit : (s : tie.After-words-in2) → s .before .before .wide .result ≤ length (s .words-in2 .result)
 callouts-fit s = front-fits _ _ 22 (room (s .before .before)) _ (s .words-in2 .ensures)
 
 -- the arrays begin with the file's words
-opens-are : (s : tie.After-words-in2) → take (s .before .before .size .result) (s .before .words-in .result) ≡ opensIn (s .before .before .before .before .before .before .before .before .before .args .file .now)
+opens-are : (s : tie.After-words-in2) → take (s .before .before .wide .result) (s .before .words-in .result) ≡ opensIn (s .before .before .before .before .before .before .before .before .before .args .file .now)
 unfolding opensIn
 opens-are s = front-is _ _ 14 (room (s .before .before)) _ (s .before .words-in .ensures)
 
-callouts-are : (s : tie.After-words-in2) → take (s .before .before .size .result) (s .words-in2 .result) ≡ calloutsIn (s .before .before .before .before .before .before .before .before .before .args .file .now)
+callouts-are : (s : tie.After-words-in2) → take (s .before .before .wide .result) (s .words-in2 .result) ≡ calloutsIn (s .before .before .before .before .before .before .before .before .before .args .file .now)
 unfolding calloutsIn
 callouts-are s = front-is _ _ 22 (room (s .before .before)) _ (s .words-in2 .ensures)
 
@@ -42,13 +42,13 @@ returns c =
     let start = test .before .before .before .before .before in
     refuses-layout _ (start .args .opens .now) (start .args .callouts .now) _ (test .before .layout-code .ensures .0) (test .if1 .taken) _ (c .read-refused .ensures)
 
-shared-slice-read-size : tie.Need-shared-slice-read-size
-shared-slice-read-size c =
+shared-slice-read-wide : tie.Need-shared-slice-read-wide
+shared-slice-read-wide c =
     let test = c .before in
     omega (arith, room-for (test .before .before .before .before .before .args .file .now) _ refl (test .before .layout-code .ensures .1 (test .if1 .left)))
 
-size-requires : tie.Need-size-requires
-size-requires c κs = search needs
+wide-requires : tie.Need-wide-requires
+wide-requires c κs = search needs
 
 words-in-requires : tie.Need-words-in-requires
 words-in-requires c κs = (omega arith, room c .few, room c .enough)
@@ -147,8 +147,8 @@ read-file-spec =
     layout-code-requires
     read-refused-requires
     returns
-    shared-slice-read-size
-    size-requires
+    shared-slice-read-wide
+    wide-requires
     words-in-requires
     words-in-requires-2
     array-share-prefix-open-words

@@ -12,8 +12,8 @@ returns c =
     let start = c .before .before in
     laid-number (start .args .block .now) (start .pre) _ _ (c .before .shared-slice-known .given 6 .fits) (c .if1 .taken)
 
-size-requires : tie.Need-size-requires
-size-requires c κs = search needs
+wide-requires : tie.Need-wide-requires
+wide-requires c κs = search needs
 
 items-of-requires : tie.Need-items-of-requires
 items-of-requires c κs = search needs
@@ -40,7 +40,7 @@ returns-2 : tie.Need-returns-2
 returns-2 c =
     let at = c .before .before .before in
     let start = at .before .before .before .before in
-    laid-head (start .args .block .now) (start .pre) _ _ _ (at .items-of .ensures .0 ∙ ap (λ j. itemsOf j (start .args .b)) (at .before .size .ensures)) (at .items-of .ensures .1)
+    laid-head (start .args .block .now) (start .pre) _ _ _ (at .items-of .ensures .0 ∙ ap (λ j. itemsOf j (start .args .b)) (at .before .wide .ensures)) (at .items-of .ensures .1)
     (sym (c .before .header-laid .ensures) ∙ not-true _ (c .if2 .taken))
 
 mul-at : tie.Need-mul-at
@@ -67,7 +67,7 @@ returns-3 c =
     let at = test .before .before .before in
     let start = at .before .before .before .before in
     c .all-zero .ensures
-    ∙ laid-rest (start .args .block .now) (start .pre) _ _ _ (at .items-of .ensures .0 ∙ ap (λ j. itemsOf j (start .args .b)) (at .before .size .ensures)) (at .items-of .ensures .1)
+    ∙ laid-rest (start .args .block .now) (start .pre) _ _ _ (at .items-of .ensures .0 ∙ ap (λ j. itemsOf j (start .args .b)) (at .before .wide .ensures)) (at .items-of .ensures .1)
     (sym (test .before .header-laid .ensures) ∙ not-false _ (test .if2 .left))
 
 pub block-laid-spec : {M : Type 1} → statement M
@@ -75,7 +75,7 @@ block-laid-spec =
     tie.close
     (tie.spec
     returns
-    size-requires
+    wide-requires
     items-of-requires
     sub-header-laid
     part-header-laid-start

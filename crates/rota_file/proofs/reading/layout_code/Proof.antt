@@ -11,12 +11,12 @@ use Rattle.rota_file.proofs.reading.layout_code.Tie as tie
 tested : (s : tie.After-check-blocks) → Tested (s .before .before .before .before .before .args .file .now) (s .check-blocks .result)
 tested s = record { whole = s .before .before .before .if1 .left; some = s .before .before .if2 .left; few = s .before .if3 .left; found = s .check-blocks .ensures }
 
-counted : (s : tie.Else6) → Counted (s .before .before .before .before .before .before .before .before .before .before .args .file .now) (s .before .before .before .before .before .check-blocks .result) (s .before .before .size .result)
+counted : (s : tie.Else6) → Counted (s .before .before .before .before .before .before .before .before .before .before .args .file .now) (s .before .before .before .before .before .check-blocks .result) (s .before .before .wide .result)
 unfolding itemsIn
 counted s =
     let sized = s .before .before in
     let right = sized .before .before in
-    record { tested = tested (right .before); right = right .if4 .left; items = sized .size .ensures; first = s .before .if5 .left; last = s .if6 .left }
+    record { tested = tested (right .before); right = right .if4 .left; items = sized .wide .ensures; first = s .before .if5 .left; last = s .if6 .left }
 
 mul-if1 : tie.Need-mul-if1
 mul-if1 c = search needs
@@ -36,19 +36,19 @@ check-blocks-requires c κs = search needs
 returns-4 : tie.Need-returns-4
 returns-4 c = says-13 _ _ (tested (c .before)) (c .if4 .taken)
 
-shared-slice-read-size : tie.Need-shared-slice-read-size
-shared-slice-read-size c = search needs
+shared-slice-read-wide : tie.Need-shared-slice-read-wide
+shared-slice-read-wide c = search needs
 
-size-requires : tie.Need-size-requires
-size-requires c κs = search needs
+wide-requires : tie.Need-wide-requires
+wide-requires c κs = search needs
 
 returns-5 : tie.Need-returns-5
 unfolding itemsIn
-returns-5 c = no-items _ _ (tested (c .before .before .before .before)) (c .before .before .before .if4 .left) _ (c .before .size .ensures) (c .if5 .taken)
+returns-5 c = no-items _ _ (tested (c .before .before .before .before)) (c .before .before .before .if4 .left) _ (c .before .wide .ensures) (c .if5 .taken)
 
 returns-6 : tie.Need-returns-6
 unfolding itemsIn
-returns-6 c = many-items _ _ (tested (c .before .before .before .before .before)) (c .before .before .before .before .if4 .left) _ (c .before .before .size .ensures) (c .if6 .taken)
+returns-6 c = many-items _ _ (tested (c .before .before .before .before .before)) (c .before .before .before .before .if4 .left) _ (c .before .before .wide .ensures) (c .if6 .taken)
 
 blocks-for-requires : tie.Need-blocks-for-requires
 blocks-for-requires c κs = search needs
@@ -76,8 +76,8 @@ layout-code-spec =
     returns-3
     check-blocks-requires
     returns-4
-    shared-slice-read-size
-    size-requires
+    shared-slice-read-wide
+    wide-requires
     returns-5
     returns-6
     blocks-for-requires
