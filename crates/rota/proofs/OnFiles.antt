@@ -10,11 +10,12 @@ use lib.ListN.{length, take, replicate, length-take}
 use Rattle.model.specs.declared.Plan.{Plan}
 use Rattle.model.specs.declared.PlanAnswer.{PlanAnswer}
 use Rattle.model.specs.declared.ReadAnswer.{ReadAnswer}
+use Rattle.model.specs.Rota.{tableCode}
 use Rattle.model.specs.Plans.{plans, isPlan, plansAfter}
 use Rattle.model.specs.Fewest.{fewest, fewestPlans}
 use Rattle.model.specs.File.{fileCode, itemsIn, opensIn, calloutsIn}
 use Rattle.model.specs.Answers.{refused, unless, orElse, roomCode, readCode, readAnswer, readOpens, readCallouts, onFile, bufferAfter, written, firstOf, nextOf, firstAnswer, nextAnswer, fewestOf, fewestAnswer}
-use Rattle.model.proofs.Accepted.{tables-from}
+use Rattle.model.proofs.Accepted.{Tables, tables-from}
 use Rattle.model.proofs.Files.{accepted-file}
 use Rattle.model.proofs.Refusals.{or-first, or-later, room-enough, room-short, unless-refused, nothing-written}
 use Rattle.model.proofs.Slots.{first-wide, next-wide, fewest-wide}
@@ -73,49 +74,49 @@ module _ (file : List ℕ) (r : ReadAnswer) (read : r ≡ readAnswer file 64 64)
       stores h a ea c ec new en = let q = ea ∙ answered h in (ec ∙ ap (λ x. x .code) q, en ∙ ap (λ x. bufferAfter x old) q)
 
   module _ (o k : List ℕ) (z : r .code ≡ 0) (table : o ≡ readOpens file zeros zeros) (table′ : k ≡ readCallouts file zeros zeros) where
-    few : itemsIn file ≤ 64
-    few = tables-from (itemsIn file) (itemsIn file) (opensIn file) (calloutsIn file) (accepted-file file (sym file-code ∙ z)) .few-items
+    file-accepted : tableCode (itemsIn file) (itemsIn file) (opensIn file) (calloutsIn file) ≡ 0
+    file-accepted = accepted-file file (sym file-code ∙ z)
+
+    file-tables : Tables (itemsIn file) (itemsIn file) (opensIn file) (calloutsIn file)
+    file-tables = tables-from (itemsIn file) (itemsIn file) (opensIn file) (calloutsIn file) file-accepted
+
+    -- what was read is the file's
+    items-are : r .n ≡ itemsIn file
+    items-are = items-read file zeros zeros o k r read table table′ z
 
     pub items-few : r .n ≤ 64
-    items-few = omega (arith, items-read file zeros zeros o k r read table table′ z, few)
+    items-few = omega (arith, items-are, file-tables .few-items)
 
-    -- the tables read are the file's
     opens-are : take (r .n) o ≡ opensIn file
     opens-are = opens-read file zeros zeros o k r read table table′ z
 
     pub opens-fit : r .n ≤ length o
-    opens-fit =
-        let t = tables-from (itemsIn file) (itemsIn file) (opensIn file) (calloutsIn file) (accepted-file file (sym file-code ∙ z)) in
-        omega (arith, length-take (r .n) o, ap length opens-are, t .open-words, items-read file zeros zeros o k r read table table′ z)
+    opens-fit = omega (arith, length-take (r .n) o, ap length opens-are, file-tables .open-words, items-are)
 
     pub read-few : length (take (r .n) o) ≤ 64
-    read-few =
-        let t = tables-from (itemsIn file) (itemsIn file) (opensIn file) (calloutsIn file) (accepted-file file (sym file-code ∙ z)) in
-        omega (arith, ap length opens-are, t .open-words, few)
+    read-few = omega (arith, ap length opens-are, file-tables .open-words, file-tables .few-items)
 
     pub first-on-file : firstOf (take (r .n) o) (plans 64 (take (r .n) o)) ≡ firstAnswer (itemsIn file) (itemsIn file) (opensIn file) (calloutsIn file)
-    first-on-file = ap (λ w. firstOf w (plans 64 w)) opens-are ∙ first-wide (itemsIn file) (itemsIn file) (opensIn file) (calloutsIn file) (accepted-file file (sym file-code ∙ z)) few
+    first-on-file = ap (λ w. firstOf w (plans 64 w)) opens-are ∙ first-wide (itemsIn file) (itemsIn file) (opensIn file) (calloutsIn file) file-accepted (file-tables .few-items)
 
     pub next-on-file : (g : Plan) → cond (isPlan 64 (take (r .n) o) (g .slots)) (nextOf (plansAfter 64 (take (r .n) o) (g .slots))) (refused 8)
         ≡ nextAnswer (itemsIn file) (itemsIn file) (opensIn file) (calloutsIn file) g
     next-on-file g =
         ap (λ w. cond (isPlan 64 w (g .slots)) (nextOf (plansAfter 64 w (g .slots))) (refused 8)) opens-are
-        ∙ next-wide (itemsIn file) (itemsIn file) (opensIn file) (calloutsIn file) (accepted-file file (sym file-code ∙ z)) few g
+        ∙ next-wide (itemsIn file) (itemsIn file) (opensIn file) (calloutsIn file) file-accepted (file-tables .few-items) g
 
     callouts-are : take (r .n) k ≡ calloutsIn file
     callouts-are = callouts-read file zeros zeros o k r read table table′ z
 
     pub callouts-fit : r .n ≤ length k
-    callouts-fit =
-        let t = tables-from (itemsIn file) (itemsIn file) (opensIn file) (calloutsIn file) (accepted-file file (sym file-code ∙ z)) in
-        omega (arith, length-take (r .n) k, ap length callouts-are, t .callout-words, items-read file zeros zeros o k r read table table′ z)
+    callouts-fit = omega (arith, length-take (r .n) k, ap length callouts-are, file-tables .callout-words, items-are)
 
     pub read-square : Square (take (r .n) o) (take (r .n) k)
-    read-square = rw (opens-are, callouts-are) (squared (itemsIn file) (opensIn file) (calloutsIn file) (accepted-file file (sym file-code ∙ z)))
+    read-square = rw (opens-are, callouts-are) (squared (itemsIn file) (opensIn file) (calloutsIn file) file-accepted)
 
     pub fewest-on-file : (cap : ℕ)
         → fewestOf (take (r .n) o) cap (fewest 64 (take (r .n) o) (take (r .n) k)) (fewestPlans 64 (take (r .n) o) (take (r .n) k))
         ≡ fewestAnswer (itemsIn file) (itemsIn file) (opensIn file) (calloutsIn file) cap
     fewest-on-file cap =
         ap₂ (λ w c. fewestOf w cap (fewest 64 w c) (fewestPlans 64 w c)) opens-are callouts-are
-        ∙ fewest-wide (itemsIn file) (itemsIn file) (opensIn file) (calloutsIn file) (accepted-file file (sym file-code ∙ z)) few cap
+        ∙ fewest-wide (itemsIn file) (itemsIn file) (opensIn file) (calloutsIn file) file-accepted (file-tables .few-items) cap
