@@ -3,7 +3,7 @@
 use mathlib.Core.Path.{_≡_, refl, sym, ap, ap₂, _∙_, subst}
 use mathlib.Core.Logic.{_⊎_}
 use mathlib.Core.Bool.{Bool, true, false, cond}
-use mathlib.Core.List.{List, [], _∷_, List·Memᴰ, List·Memᴰ·head, List·Memᴰ·not-nil}
+use mathlib.Core.List.{List, [], _∷_, List·Memᴰ, List·Memᴰ·head}
 use Prim.Native.Nat.{ℕ, _^_, _<_, _≤_}
 use native.Mathlib.Omega.{arith}
 use lib.Dec.{T, eqb, leb, eqb→eq, eqb-refl}
@@ -18,7 +18,7 @@ use Rattle.model.specs.Plans.{plans, isPlan, plansAfter, IsPlan}
 use Rattle.model.specs.Fewest.{calloutsOf, fewest, fewestPlans}
 use Rattle.model.specs.Count.{count}
 use Rattle.model.specs.Answers.{unless, refused, deficient, overCap, given, firstOf, firstAnswer, nextOf, nextAnswer, fewestOf, fewestAnswer}
-use Rattle.model.proofs.Members.{is-true, is-false, same-refl, same-eq, keep-from, keep-into, any-into, any-from}
+use Rattle.model.proofs.Members.{is-true, is-false, same-refl, same-eq, keep-from, keep-into, any-into, any-from, place-of}
 use Rattle.model.proofs.Order.{Before, chain-keep, least-is-head}
 use Rattle.model.proofs.Extremes.{least-is}
 use Rattle.model.proofs.Accepted.{accepted}
@@ -60,11 +60,7 @@ module _ (m : ℕ) (opens : List ℕ) (few : length opens ≤ 64) (range : (i : 
 
   pub count-some : (p : List ℕ) → IsPlan opens p → 0 < count m opens
   unfolding count
-  count-some p P = go (plans m opens) (into p P)
-    where
-      go : (l : List (List ℕ)) → List·Memᴰ p l → 0 < length l
-      go [] h = absurd (List·Memᴰ·not-nil h)
-      go (x ∷ l) h = omega arith
+  count-some p P = omega (arith, place-of [] (plans m opens) (into p P) .1)
 
   -- ---- whether a record is a plan
 
