@@ -1,4 +1,5 @@
-//! Refusals 1 to 4: whether two tables are accepted as a rota; and a refused call's answer.
+//! Refusals 1 to 7: whether two tables are accepted as a rota, and whether its plans can be counted and a fleet priced; and a refused
+//! call's answer.
 
 use super::words;
 use crate::records::{Plan, PlanAnswer};
@@ -45,6 +46,41 @@ pub fn table_code(n: usize, opens: &[u64], callouts: &[u64]) -> u32 {
         return 2;
     }
     cell_code(n, opens, callouts)
+}
+
+// 1 to 6 or 0, for a tally of so many words.
+pub fn count_code(n: usize, opens: &[u64], callouts: &[u64], tally: usize) -> u32 {
+    let code = table_code(n, opens, callouts);
+    if code != 0 {
+        return code;
+    }
+    if 20 < n {
+        return 5;
+    }
+    if (tally as u64) < words::single(n) {
+        return 6;
+    }
+    0
+}
+
+// 7 or 0.
+fn fleet_code(vehicles: u64) -> u32 {
+    if vehicles == 0 {
+        return 7;
+    }
+    if 10000 < vehicles {
+        return 7;
+    }
+    0
+}
+
+// 1 to 7 or 0.
+pub fn price_code(n: usize, opens: &[u64], callouts: &[u64], tally: usize, vehicles: u64) -> u32 {
+    let code = count_code(n, opens, callouts, tally);
+    if code != 0 {
+        return code;
+    }
+    fleet_code(vehicles)
 }
 
 // A refused call's answer: the blank plan and zeros.

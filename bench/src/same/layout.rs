@@ -1,6 +1,6 @@
 //! How a block is laid out: what the reader compares and the writer writes.
 
-use super::numbers;
+use super::{numbers, words};
 
 pub const MARK: [u8; 4] = *b"ROTA";
 
@@ -72,7 +72,7 @@ pub fn block_laid(block: &[u8], n: u8, b: usize) -> bool {
     if 255 < b {
         return false;
     }
-    let k = items_of(numbers::size(n), b);
+    let k = items_of(words::wide(n), b);
     if !header_laid(&block[0..14], n, b as u8, k as u8) {
         return false;
     }

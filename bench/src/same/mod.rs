@@ -12,7 +12,6 @@ mod numbers;
 mod permanent;
 mod reader;
 mod reading;
-mod refusals;
 pub mod rota;
 mod rota_file;
 mod tariff;

@@ -1,12 +1,6 @@
 //! Numbers and their bytes, low byte first.
 
-pub fn wide(x: u8) -> u64 {
-    x as u64
-}
-
-pub fn size(x: u8) -> usize {
-    x as usize
-}
+use super::words;
 
 // The number of up to 8 bytes.
 pub fn from_bytes(bytes: &[u8]) -> u64 {
@@ -14,7 +8,7 @@ pub fn from_bytes(bytes: &[u8]) -> u64 {
     let mut i = bytes.len();
     while 0 < i {
         i -= 1;
-        x = 256 * x + wide(bytes[i]);
+        x = 256 * x + words::wide(bytes[i]) as u64;
     }
     x
 }
@@ -35,7 +29,7 @@ pub fn check_of(bytes: &[u8]) -> u64 {
     let mut sum: u64 = 0;
     let mut i = 0;
     while i < bytes.len() {
-        sum += wide(bytes[i]);
+        sum += words::wide(bytes[i]) as u64;
         i += 1;
     }
     sum % 65536

@@ -1,7 +1,7 @@
 //! Reading: the tests of a file before its words, the words, and the lent tables.
 
 use super::reader::Checked;
-use super::{layout, numbers, reader};
+use super::{layout, numbers, reader, words};
 
 // The tests of all blocks together.
 fn check_blocks(file: &[u8]) -> Checked {
@@ -34,7 +34,7 @@ pub fn layout_code(file: &[u8]) -> u32 {
     if c.wrong {
         return 13;
     }
-    let n = numbers::size(file[5]);
+    let n = words::wide(file[5]);
     if n == 0 {
         return 14;
     }

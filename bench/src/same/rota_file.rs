@@ -1,6 +1,6 @@
 //! The rota file: any bytes are read as a rota or refused, and a rota is written as its file.
 
-use super::{acceptance, layout, numbers, reading, writing};
+use super::{acceptance, layout, reading, words, writing};
 use crate::records::{ReadAnswer, WriteAnswer};
 
 // The answer of a refused read.
@@ -14,7 +14,7 @@ pub fn read_file(file: &[u8], opens: &mut [u64], callouts: &mut [u64]) -> ReadAn
     if layout != 0 {
         return read_refused(layout);
     }
-    let n = numbers::size(file[5]);
+    let n = words::wide(file[5]);
     let open_words = reading::words_in(file, 14, n);
     let callout_words = reading::words_in(file, 22, n);
     let cells = acceptance::cell_code(n, &open_words[..n], &callout_words[..n]);

@@ -5,7 +5,7 @@ use mathlib.Core.Bool.{Bool}
 use mathlib.Core.List.{List, [], _∷_}
 use Prim.Native.Nat.{ℕ, zero, suc, _^_, _≤_, _<_}
 use native.Mathlib.Omega.{arith}
-use borrow.Author.Tests.{lt-ltb, le-ltb, ltb-false}
+use borrow.Author.Tests.{ltb-false}
 use lib.ListN.{length}
 use Rattle.model.specs.declared.PlanAnswer.{PlanAnswer}
 use Rattle.model.specs.declared.CountAnswer.{CountAnswer}
@@ -16,32 +16,8 @@ use Rattle.model.specs.Count.{count, subsetCounts}
 use Rattle.model.specs.Grade.{gradeOf, someForced}
 use Rattle.model.specs.Answers.{written, tallyCode, countCode, countAnswer, countTally, firstOf, given, deficient, gradeBy, gradeUnless, gradeRefused, gradeAnswer, gradeTally}
 use Rattle.model.proofs.Accepted.{passed, tables-from}
-use Rattle.model.proofs.Refusals.{or-first, or-later, neither-refuses, nothing-written, zero-number, all-written, the-number}
+use Rattle.model.proofs.Refusals.{neither-refuses, nothing-written, zero-number, all-written, the-number}
 use Rattle.model.proofs.Slots.{plans-wide}
-
--- ---- 1 to 6
-
-module _ (n : ℕ) (opens callouts : List ℕ) (words c : ℕ) (e : c ≡ tableCode n n opens callouts) where
-  pub tables-refuse : c ≢ 0 → c ≡ countCode n n opens callouts words
-  unfolding countCode
-  tables-refuse d = e ∙ sym (or-first _ _ (λ z. d (e ∙ z)))
-
-  module _ (z : c ≡ 0) where
-    by-tally : (x : ℕ) → tallyCode n words ≡ x → x ≡ countCode n n opens callouts words
-    unfolding countCode
-    by-tally x q = sym (or-later _ _ (sym e ∙ z) ∙ q)
-
-    pub too-many : 20 < n → 5 ≡ countCode n n opens callouts words
-    unfolding tallyCode
-    too-many h = by-tally 5 (simp (lt-ltb 20 n h))
-
-    pub too-short : n ≤ 20 → words < 2 ^ n → 6 ≡ countCode n n opens callouts words
-    unfolding tallyCode
-    too-short h s = by-tally 6 (simp (le-ltb 20 n h, lt-ltb words (2 ^ n) s))
-
-    pub enough : n ≤ 20 → 2 ^ n ≤ words → 0 ≡ countCode n n opens callouts words
-    unfolding tallyCode
-    enough h s = by-tally 0 (simp (le-ltb 20 n h, le-ltb words (2 ^ n) s))
 
 -- ---- the calls
 

@@ -1,7 +1,6 @@
 pub mod Calls
 pub mod Counting
 pub mod Enumerating
-pub mod Rates
 pub mod Demand3OfCalls
 pub mod OnFiles
 pub mod Buffers

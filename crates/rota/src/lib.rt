@@ -1,8 +1,6 @@
 // The public calls, on tables of words and on the bytes of a rota file. None has a `requires`. Each answer, and each buffer lent, is
 // one function of what the call got: model's specs/Answers and specs/Enumerator.
 mod buffer;
-mod refusals;
-mod tariff;
 
 ghost use mathlib.Core.Path.{_≡_};
 ghost use lib.ListN.{length, take};
@@ -127,7 +125,7 @@ pub fn count_plans(n: usize, opens: &[u64], callouts: &[u64], tally: &mut [u64])
     ensures answer { λ r. ⌜ r ≡ countAnswer n n (now (opens .entry)) (now (callouts .entry)) (length (now (tally .entry))) ⌝ }
     ensures tally { λ _. ⌜ now (tally .exit) ≡ countTally n n (now (opens .entry)) (now (callouts .entry)) (now (tally .entry)) ⌝ }
 {
-    let code = refusals::count_code(n, opens, callouts, tally.len());
+    let code = acceptance::count_code(n, opens, callouts, tally.len());
     if code != 0 {
         return CountAnswer { code, count: 0 };
     }
@@ -140,7 +138,7 @@ pub fn grade(n: usize, opens: &[u64], callouts: &[u64], tally: &mut [u64]) -> Gr
     ensures answer { λ r. ⌜ r ≡ gradeAnswer n n (now (opens .entry)) (now (callouts .entry)) (length (now (tally .entry))) ⌝ }
     ensures tally { λ _. ⌜ now (tally .exit) ≡ gradeTally n n (now (opens .entry)) (now (callouts .entry)) (now (tally .entry)) ⌝ }
 {
-    let code = refusals::count_code(n, opens, callouts, tally.len());
+    let code = acceptance::count_code(n, opens, callouts, tally.len());
     if code != 0 {
         return GradeAnswer {
             code,
@@ -179,7 +177,7 @@ pub fn monthly_price(
     ensures answer { λ r. ⌜ r ≡ priceAnswer n n (now (opens .entry)) (now (callouts .entry)) vehicles (length (now (tally .entry))) ⌝ }
     ensures tally { λ _. ⌜ now (tally .exit) ≡ priceTally n n (now (opens .entry)) (now (callouts .entry)) vehicles (now (tally .entry)) ⌝ }
 {
-    let code = refusals::price_code(n, opens, callouts, tally.len(), vehicles);
+    let code = acceptance::price_code(n, opens, callouts, tally.len(), vehicles);
     if code != 0 {
         return PriceAnswer {
             code,

@@ -1,6 +1,6 @@
 -- `rota::monthly_price` meets its contract: refused, or without a plan 9, or counted, graded and priced. Assumes nothing.
 use native.Mathlib.Omega.{arith}
-use Rattle.rota.proofs.Rates.{grade-range}
+use Rattle.tariff.proofs.Rates.{grade-range}
 use Rattle.rota.proofs.Pricing.{price-refused, price-sizes, price-square, fleet, price-none, some-total, few-called, price-done}
 use borrow.Author.Needs.{needs}
 use Rattle.rota.proofs.monthly_price.Statement.{statement}

@@ -1,9 +1,9 @@
--- `rota::refusals::count_code` meets its contract: the tests are the definition's, in their order. Assumes nothing.
+-- `acceptance::count_code` meets its contract: the tests are the definition's, in their order. Assumes nothing.
 use native.Mathlib.Omega.{arith}
-use Rattle.rota.proofs.Counting.{tables-refuse, too-many, too-short, enough}
+use Rattle.acceptance.proofs.Tallies.{tables-refuse, too-many, too-short, enough}
 use borrow.Author.Needs.{needs}
-use Rattle.rota.proofs.refusals.count_code.Statement.{statement}
-use Rattle.rota.proofs.refusals.count_code.Tie as tie
+use Rattle.acceptance.proofs.count_code.Statement.{statement}
+use Rattle.acceptance.proofs.count_code.Tie as tie
 
 table-code-requires : tie.Need-table-code-requires
 table-code-requires c κs = search needs

@@ -1,8 +1,8 @@
--- `rota::refusals::fleet_code` meets its contract: the tests are the definition's. Assumes nothing.
+-- `acceptance::fleet_code` meets its contract: the tests are the definition's. Assumes nothing.
 use borrow.Author.Tests.{eq-eqb, ne-eqb, lt-ltb, le-ltb}
 use Rattle.model.specs.Answers.{fleetCode}
-use Rattle.rota.proofs.refusals.fleet_code.Statement.{statement}
-use Rattle.rota.proofs.refusals.fleet_code.Tie as tie
+use Rattle.acceptance.proofs.fleet_code.Statement.{statement}
+use Rattle.acceptance.proofs.fleet_code.Tie as tie
 
 returns : tie.Need-returns
 unfolding fleetCode

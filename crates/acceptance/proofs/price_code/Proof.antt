@@ -1,8 +1,8 @@
--- `rota::refusals::price_code` meets its contract: the fleet is tested last. Assumes nothing.
-use Rattle.rota.proofs.Pricing.{count-refuses, count-passes}
+-- `acceptance::price_code` meets its contract: the fleet is tested last. Assumes nothing.
+use Rattle.acceptance.proofs.Tallies.{count-refuses, count-passes}
 use borrow.Author.Needs.{needs}
-use Rattle.rota.proofs.refusals.price_code.Statement.{statement}
-use Rattle.rota.proofs.refusals.price_code.Tie as tie
+use Rattle.acceptance.proofs.price_code.Statement.{statement}
+use Rattle.acceptance.proofs.price_code.Tie as tie
 
 count-code-requires : tie.Need-count-code-requires
 count-code-requires c κs = search needs
