@@ -35,7 +35,7 @@ module _ (w o p : List ℕ) (f e d : ℕ) (F : Filled w o p f e d) where
   deficient = bitOr e y
 
   holds : (k : ℕ) → k < 64 → bit d k ≡ 1 → own o k < n
-  holds k h b = F .table .item k h (F .held k h b)
+  holds k h b = F .table .item k h (F .dead .held k h b)
 
   -- what `deficient_set` asks
   pub dead-owners : (length o ≡ 64) × ((k : ℕ) → k < 64 → bit d k ≡ 1 → own o k < 64)
@@ -51,7 +51,7 @@ module _ (w o p : List ℕ) (f e d : ℕ) (F : Filled w o p f e d) where
 
   holders-ones : ones y ≡ ones d
   unfolding holders
-  holders-ones = ones-image (own o) 64 d n (at p) (F .fits) holds (λ k h b. F .table .back k h (F .held k h b))
+  holders-ones = ones-image (own o) 64 d n (at p) (F .dead .fits) holds (λ k h b. F .table .back k h (F .dead .held k h b))
 
   pub deficient-lt : deficient < 2 ^ n
   deficient-lt = or-lt n e y (F .items) holders-lt
@@ -61,7 +61,7 @@ module _ (w o p : List ℕ) (f e d : ℕ) (F : Filled w o p f e d) where
   apart x = same-or (bit y x) 1
       (λ b.
       let r = holders-from x b in
-      let z : bit e x ≢ 1 = λ c. exposed-other w o p f (F .table) x (F .exposed x c) (r .0) (r .1) (F .held (r .0) (r .1) (r .2)) (r .3) in
+      let z : bit e x ≢ 1 = λ c. exposed-other w o p f (F .table) x (F .exposed x c) (r .0) (r .1) (F .dead .held (r .0) (r .1) (r .2)) (r .3) in
       omega (arith, bit-lt e x))
       (λ m. omega (arith, bit-lt e x, bit-lt y x))
 
@@ -79,10 +79,10 @@ module _ (w o p : List ℕ) (f e d : ℕ) (F : Filled w o p f e d) where
   -- all slots open to its items are dead
   pub deficient-shut : (x : ℕ) → x < n → bit deficient x ≡ 1 → Within (getD w x 0) d
   deficient-shut x h b = same-or (bit e x) 1
-      (λ c. F .all x h c)
+      (λ c. F .dead .all x h c)
       (λ m k g.
       let q = holders-from x (omega (arith, bit-or e y x, bit-lt e x)) in
-      omega (arith, ap (λ x. cell w x k) (q .3), F .shut (q .0) (q .1) (q .2) k g))
+      omega (arith, ap (λ x. cell w x k) (q .3), F .dead .shut (q .0) (q .1) (q .2) k g))
 
   near-deficient : Within (neighbours w deficient) d
   near-deficient k h = same-or (bit (neighbours w deficient) k) 1
@@ -100,7 +100,7 @@ module _ (w o p : List ℕ) (f e d : ℕ) (F : Filled w o p f e d) where
       (λ m. same-or (bit y x) 1
       (λ c.
       let r = holders-from x c in
-      let q = once w o p f (F .table) (r .0) k (r .1) h (F .held (r .0) (r .1) (r .2)) b (r .3) in
+      let q = once w o p f (F .table) (r .0) k (r .1) h (F .dead .held (r .0) (r .1) (r .2)) b (r .3) in
       absurd (omega (arith, r .2, ap (bit d) q)))
       (λ c. omega (arith, bit-or e y x, bit-lt e x, bit-lt y x, bit-lt d k)))
 
@@ -179,7 +179,7 @@ module _ (w o p : List ℕ) (f e d : ℕ) (F : Filled w o p f e d) where
 
       dead-near : Within d (neighbours w set)
       dead-near =
-          F .least (neighbours w set)
+          F .dead .least (neighbours w set)
           (λ x h b k g. neighbours-into w set x k h (omega (arith, has-exposed x, bit-lt set x)))
           (λ k h b c l g. let r = near-held k b in neighbours-into w set (own o k) l (r .1) (r .0))
 
@@ -196,13 +196,13 @@ module _ (w o p : List ℕ) (f e d : ℕ) (F : Filled w o p f e d) where
   short-is : shortBy w deficient ≡ ones e
   unfolding shortBy
   short-is =
-      let near = ones-subset 64 (neighbours w deficient) d (near-lt deficient) (F .fits) near-deficient in
+      let near = ones-subset 64 (neighbours w deficient) d (near-lt deficient) (F .dead .fits) near-deficient in
       le-antisymm (at-most deficient deficient-lt) (omega (arith, deficient-ones, near))
 
   none-dead : e ≡ 0 → deficient ≡ 0
   none-dead z =
       let no : (x : ℕ) → bit e x ≡ 0 = λ x. ap (λ v. bit v x) z ∙ bit-empty x in
-      let dead = F .least 0 (λ x h b. absurd (omega (arith, no x))) (λ k h b c. absurd (omega (arith, bit-empty k))) in
+      let dead = F .dead .least 0 (λ x h b. absurd (omega (arith, no x))) (λ k h b c. absurd (omega (arith, bit-empty k))) in
       empty n deficient deficient-lt (λ x l. same-or (bit y x) 1
       (λ b. let r = holders-from x b in absurd (omega (arith, dead (r .0) (r .1), r .2, bit-empty (r .0))))
       (λ m. omega (arith, bit-or e y x, no x, bit-lt y x)))

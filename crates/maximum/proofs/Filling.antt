@@ -14,16 +14,7 @@ use Rattle.words.proofs.Walk.{Walk, Turn, walk, turn}
 use Rattle.augment.specs.Table.{own, at, Table, Matched, Exposed}
 use Rattle.augment.specs.Search.{Within, Assignable, Assigned, Barred, Same}
 use Rattle.augment.proofs.Moves.{same-or}
-use Rattle.maximum.specs.Maximum.{Fillable, Filled}
-
--- the dead slots of the items of e
-pub record Dead (w o : List ℕ) (f e d : ℕ) : Type 0 where
-  pub fits : d < 2 ^ 64
-  pub held : (k : ℕ) → k < 64 → bit d k ≡ 1 → bit f k ≡ 0
-  pub shut : (k : ℕ) → k < 64 → bit d k ≡ 1 → Within (getD w (own o k) 0) d
-  pub all : (x : ℕ) → x < length w → bit e x ≡ 1 → Within (getD w x 0) d
-  pub least : (g : ℕ) → ((x : ℕ) → x < length w → bit e x ≡ 1 → Within (getD w x 0) g)
-      → ((k : ℕ) → k < 64 → bit g k ≡ 1 → bit d k ≡ 1 → Within (getD w (own o k) 0) g) → Within d g
+use Rattle.maximum.specs.Maximum.{Fillable, Dead, Filled}
 
 pub record Filling (w : List ℕ) (wanting : ℕ) (o p : List ℕ) (f e d left : ℕ) : Type 0 where
   pub table : Table w o p f
@@ -63,11 +54,7 @@ filling-end w wanting o p f e d left F z =
       items = F .exposed-items;
       exposed = F .exposed;
       matched = λ x h b. F .matched x h b (ap (λ y. bit y x) z ∙ bit-empty x);
-      fits = F .dead .fits;
-      held = F .dead .held;
-      shut = F .dead .shut;
-      all = F .dead .all;
-      least = F .dead .least;
+      dead = F .dead;
     }
 
 -- a turn: x is the item, rest what is left, cand its slots that are not dead

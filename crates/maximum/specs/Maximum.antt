@@ -20,19 +20,22 @@ pub record Fillable (w o p : List ℕ) (f wanting : ℕ) : Type 0 where
   pub exposed : (x : ℕ) → bit wanting x ≡ 1 → Exposed o p f x
   pub matched : (x : ℕ) → x < length w → bit wanting x ≡ 0 → Matched o p f x
 
--- The items of e hold no slot, the others do. The slots of d are held; all slots open to their holders and to the items of e are in d;
--- and d is the least such set.
-pub record Filled (w o p : List ℕ) (f e d : ℕ) : Type 0 where
-  pub table : Table w o p f
-  pub items : e < 2 ^ length w
-  pub exposed : (x : ℕ) → bit e x ≡ 1 → Exposed o p f x
-  pub matched : (x : ℕ) → x < length w → bit e x ≡ 0 → Matched o p f x
+-- The slots of d are held; all slots open to their holders and to the items of e are in d; and d is the least such set.
+pub record Dead (w o : List ℕ) (f e d : ℕ) : Type 0 where
   pub fits : d < 2 ^ 64
   pub held : (k : ℕ) → k < 64 → bit d k ≡ 1 → bit f k ≡ 0
   pub shut : (k : ℕ) → k < 64 → bit d k ≡ 1 → Within (getD w (own o k) 0) d
   pub all : (x : ℕ) → x < length w → bit e x ≡ 1 → Within (getD w x 0) d
   pub least : (g : ℕ) → ((x : ℕ) → x < length w → bit e x ≡ 1 → Within (getD w x 0) g)
       → ((k : ℕ) → k < 64 → bit g k ≡ 1 → bit d k ≡ 1 → Within (getD w (own o k) 0) g) → Within d g
+
+-- the items of e hold no slot, the others do; d are the dead slots
+pub record Filled (w o p : List ℕ) (f e d : ℕ) : Type 0 where
+  pub table : Table w o p f
+  pub items : e < 2 ^ length w
+  pub exposed : (x : ℕ) → bit e x ≡ 1 → Exposed o p f x
+  pub matched : (x : ℕ) → x < length w → bit e x ≡ 0 → Matched o p f x
+  pub dead : Dead w o f e d
 
 -- the holders of the slots of a set
 unfoldable pub holders : List ℕ → ℕ → ℕ

@@ -45,9 +45,9 @@ module _ {w c : List ℕ} (S : Square w c) {u v : ℕ → ℕ} {r : ℕ} {t : Li
   held-tight k h b = tight-open T (own o k) k (holder-known k h b) h (F .table .open-cell k h b)
 
   dead-lt : d < 2 ^ length w
-  dead-lt = high-empty 64 d (length w) (F .fits) (λ k g h. same-or (bit d k) 1
+  dead-lt = high-empty 64 d (length w) (F .dead .fits) (λ k g h. same-or (bit d k) 1
       (λ b.
-      let z = F .held k h b in
+      let z = F .dead .held k h b in
       absurd (omega (arith, slot-below S (own o k) (holder-known k h z) k (held-tight k h z .0))))
       (λ m. omega (arith, bit-lt d k)))
 
