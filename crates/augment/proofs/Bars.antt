@@ -7,7 +7,6 @@ use Prim.Native.Nat.{ℕ, _-_, _≤_, _<_}
 use native.Mathlib.Omega.{arith}
 use lib.ListN.{length, getD}
 use Rattle.words.specs.Word.{bit}
-use Rattle.words.specs.Sum.{sum}
 use Rattle.words.proofs.Bits.{bit-lt, bit-one-lt}
 use Rattle.words.proofs.Sums.{except, except-other, sum-except, sum-injection}
 use Rattle.model.specs.Plans.{IsPlan}

@@ -12,7 +12,7 @@ use Rattle.words.specs.Word.{bit, without, lowest}
 use Rattle.words.proofs.Bits.{ext, bit-lt, bit-cases, bit-empty, bit-or, bit-without-other}
 use Rattle.words.proofs.Sets.{bit-without-le}
 use Rattle.words.proofs.Walk.{Walk, Turn, walk, turn}
-use Rattle.model.specs.Sets.{members, union}
+use Rattle.model.specs.Sets.{members}
 use Rattle.model.proofs.Sets.{members-from, members-into, union-into, union-from, union-lt}
 use Rattle.augment.specs.Table.{own, cell, Owners, span}
 use Rattle.augment.specs.Search.{Movable, Mover}

@@ -3,9 +3,8 @@
 // free slot means nothing, nor what `slot` has at an item without one.
 ghost use mathlib.Core.Path.{_≡_};
 ghost use mathlib.Core.Logic.{_≢_};
-ghost use Prim.Native.Nat.{ℕ, _≤_, _<_};
+ghost use Prim.Native.Nat.{_<_};
 ghost use lib.ListN.{length};
-ghost use Rattle.words.specs.Word.{bit};
 ghost use Rattle.augment.specs.Table.{own, Owners, span};
 ghost use Rattle.augment.specs.Search.{Movable, Mover, Passable, Passed, Vacatable, Vacated, Closed, Assignable, Assigned, Barred, Same};
 

@@ -11,8 +11,8 @@ use Rattle.words.specs.Word.{bit, with, without, minus, low, lowest}
 use Rattle.words.proofs.Bits.{bit-lt, bit-empty, bit-one-lt, bit-minus, bit-low, low-lt, bit-with, bit-with-other, with-lt, bit-without, bit-without-other}
 use Rattle.words.proofs.Sets.{bit-with-le, bit-without-le}
 use Rattle.words.proofs.Walk.{Walk, Turn, walk, turn}
-use Rattle.augment.specs.Table.{own, at, Table, Matched, Exposed}
-use Rattle.augment.specs.Search.{Within, Assignable, Assigned, Barred, Same}
+use Rattle.augment.specs.Table.{at, Table, Matched, Exposed}
+use Rattle.augment.specs.Search.{Assignable, Assigned, Barred, Same}
 use Rattle.augment.proofs.Moves.{same-or}
 use Rattle.maximum.specs.Maximum.{Fillable, Dead, Filled}
 

@@ -1,9 +1,9 @@
 // Maximum matchings, and the deficient set that shows that no matching is larger (document 01's shortage). The tables are those
 // of `augment`.
 ghost use mathlib.Core.Path.{_≡_};
-ghost use Prim.Native.Nat.{ℕ, _^_, _≤_, _<_};
+ghost use Prim.Native.Nat.{ℕ, _<_};
 ghost use lib.Bits.{bitOr};
-ghost use lib.ListN.{length, getD};
+ghost use lib.ListN.{length};
 ghost use Rattle.words.specs.Word.{bit};
 ghost use Rattle.augment.specs.Table.{own};
 ghost use Rattle.maximum.specs.Maximum.{Fillable, Filled, holders, deficientBy};

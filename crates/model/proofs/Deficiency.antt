@@ -12,12 +12,12 @@ use lib.Dec.{T, eqb, eqb→eq, eqb-refl}
 use lib.ListN.{length, getD}
 use lib.Pow.{pow-pos}
 use Rattle.words.specs.Word.{bit}
-use Rattle.words.specs.Sum.{below, sum}
+use Rattle.words.specs.Sum.{below}
 use Rattle.words.proofs.Bits.{bit-lt, bit-and, bit-or, bit-one-lt, bit-cases}
 use Rattle.words.proofs.Sums.{below-from, below-into, sum-injection}
 use Rattle.words.proofs.Sets.{ones-sum, ones-or-and, ones-subset, subset-eq}
 use Rattle.model.specs.Lists.{greatest, least}
-use Rattle.model.specs.Sets.{members, union}
+use Rattle.model.specs.Sets.{members}
 use Rattle.model.specs.Plans.{IsPlan}
 use Rattle.model.specs.Deficiency.{neighbours, shortBy, itemSets, deficiency, deficientSets, deficientSet}
 use Rattle.model.proofs.Members.{keep-from, keep-into}

@@ -12,7 +12,7 @@ use Rattle.words.specs.Word.{bit}
 use Rattle.words.proofs.Bits.{bit-lt}
 use Rattle.words.proofs.Sums.{sum-const, sum-le}
 use Rattle.model.specs.declared.Plan.{Plan}
-use Rattle.model.specs.Lists.{keep, any, same, before, least}
+use Rattle.model.specs.Lists.{keep, same, before}
 use Rattle.model.specs.Rota.{tableCode}
 use Rattle.model.specs.Plans.{plans, isPlan, plansAfter, IsPlan}
 use Rattle.model.specs.Fewest.{calloutsOf, fewest, fewestPlans}

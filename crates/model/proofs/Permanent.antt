@@ -6,8 +6,8 @@ use Prim.Native.Nat.{ℕ, _*_}
 use native.Mathlib.Nat.{suc-inj}
 use native.Mathlib.Omega.{arith}
 use lib.ListN.{length, length-map}
-use Rattle.words.specs.Word.{bit, has}
-use Rattle.words.specs.Sum.{below, total}
+use Rattle.words.specs.Word.{has}
+use Rattle.words.specs.Sum.{below}
 use Rattle.model.specs.Plans.{arrangements, fits, matchings, padded, plans}
 use Rattle.model.specs.Count.{count, product, permanent}
 use Rattle.model.proofs.Sets.{one, bit-is, total-tests}

@@ -1,7 +1,7 @@
 -- The list of plans holds the complete plans and nothing else, in strictly rising order. Assumes nothing.
 use mathlib.Core.Path.{_≡_, refl, sym, ap, _∙_, subst}
 use mathlib.Core.Logic.{_↔_}
-use mathlib.Core.List.{List, [], _∷_, _++_, map, flatMap, List·Memᴰ, List·Memᴰ·head, List·Memᴰ·eq-of-singleton, Memᴰ·map, Memᴰ·of-map}
+use mathlib.Core.List.{List, [], _∷_, _++_, map, List·Memᴰ, List·Memᴰ·head, List·Memᴰ·eq-of-singleton, Memᴰ·map, Memᴰ·of-map}
 use Prim.Native.Nat.{ℕ, zero, suc, _+_, _-_, _^_, _<_, _≤_}
 use native.Mathlib.Nat.{suc-inj}
 use native.Mathlib.Omega.{arith}
@@ -13,7 +13,7 @@ use Rattle.words.specs.Word.{bit, has}
 use Rattle.words.specs.Sum.{below}
 use Rattle.words.proofs.Bits.{has-in, has-bit, bit-one-lt}
 use Rattle.words.proofs.Sums.{below-into}
-use Rattle.model.specs.Lists.{keep, remove, before}
+use Rattle.model.specs.Lists.{remove}
 use Rattle.model.specs.Plans.{arrangements, fits, matchings, padded, plans, plansAfter, IsPlan}
 use Rattle.model.proofs.Members.{both, both-left, both-right, keep-from, keep-into, remove-from, remove-into, flatMap-from, flatMap-into}
 use Rattle.model.proofs.Order.{Before, Rising, chain-keep, chain-below, arrangements-rise, rising-map, before-append, after-member}

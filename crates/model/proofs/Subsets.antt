@@ -10,19 +10,19 @@ use native.Mathlib.Omega.{arith}
 use borrow.Author.Tests.{eq-eqb, ne-eqb}
 use lib.Count.{ones, ones-le}
 use lib.Dec.{eqb}
-use lib.ListN.{length, getD, take, length-take}
+use lib.ListN.{length, getD, take}
 use lib.Seq.{take-suc, take-length, length-take-le}
 use Rattle.words.specs.Word.{bit, has, without, low}
 use Rattle.words.specs.Sum.{below, total, sum}
 use Rattle.words.proofs.Bits.{at-slot, bit-lt, bit-low, bit-without, bit-without-other, without-le, has-true, has-false}
 use Rattle.words.proofs.Sums.{below-from, total-cong, sum-le, sum-scale}
 use Rattle.words.proofs.Sets.{ones-sum, ones-none, ones-low, ones-without}
-use Rattle.model.specs.Lists.{keep, remove}
+use Rattle.model.specs.Lists.{remove}
 use Rattle.model.specs.Sets.{members}
 use Rattle.model.specs.Plans.{matchings}
 use Rattle.model.specs.Count.{count, subsetCount}
 use Rattle.model.proofs.Members.{keep-all}
-use Rattle.model.proofs.Sets.{one, bit-is, members-from}
+use Rattle.model.proofs.Sets.{bit-is, members-from}
 use Rattle.model.proofs.Permanent.{count-matchings}
 use Rattle.model.proofs.Ways.{keep-same, keep-keep, total-keep, ways, ways-snoc}
 

@@ -9,7 +9,7 @@ use lib.ListN.{getD}
 use lib.Pow.{pow-mono}
 use Rattle.words.specs.Word.{bit, minus, low}
 use Rattle.words.proofs.Bits.{bit-lt, bit-empty, bit-minus, bit-low, bit-low-high, low-lt}
-use Rattle.augment.specs.Table.{own, at, cell}
+use Rattle.augment.specs.Table.{at, cell}
 use Rattle.augment.specs.Search.{Within, Same}
 use Rattle.augment.proofs.Bars.{slot-lt}
 use Rattle.least.specs.Least.{Kept, Shiftable, Shifted, Stuck, Lowerable, Lowered, Sinkable}

@@ -9,7 +9,7 @@ use native.Mathlib.Numerals.{one-add}
 use native.Mathlib.Decide.{ℕ-discrete, decLt}
 use native.Mathlib.Omega.{arith}
 use borrow.Author.Tests.{eq-eqb, ne-eqb, eqb-true, eqb-false}
-use lib.Dec.{T, eqb, lit<}
+use lib.Dec.{T, lit<}
 use lib.Pow.{pow-pos, pow-mono, pow-lt, shr-shr}
 use lib.Bits.{bitAnd, bitOr, and-step, or-step, and-lt, or-lt}
 use Rattle.words.specs.Word.{bit, has, with, without, low, minus, select}

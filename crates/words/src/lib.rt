@@ -1,7 +1,7 @@
 // Words of 64 bits as sets of slots 0 to 63: slot j is in w if bit j of w is 1.
 ghost use mathlib.Core.Path.{_≡_};
 ghost use mathlib.Core.Logic.{_≢_};
-ghost use Prim.Native.Nat.{ℕ, _^_, _≤_, _<_};
+ghost use Prim.Native.Nat.{_^_, _≤_, _<_};
 ghost use lib.Count.{ones};
 ghost use Rattle.words.specs.Word.{bit, has, with, without, low, lowest, minus, select};
 
