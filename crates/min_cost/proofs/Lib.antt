@@ -1,3 +1,4 @@
 pub mod Levels
 pub mod Duals
 pub mod Raises
+pub mod Squares

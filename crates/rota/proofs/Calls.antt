@@ -1,11 +1,11 @@
 -- Calls over tables, from the number that the tests of the tables found: refused by it, or answered by the searches. Assumes nothing.
-use mathlib.Core.Path.{_≡_, sym, ap, _∙_, subst}
+use mathlib.Core.Path.{_≡_, sym, ap, _∙_}
 use mathlib.Core.Logic.{_≢_}
 use mathlib.Core.Bool.{cond}
 use mathlib.Core.List.{List, _++_}
-use Prim.Native.Nat.{ℕ, _^_, _≤_, _<_}
+use Prim.Native.Nat.{ℕ, _≤_, _<_}
 use native.Mathlib.Omega.{arith}
-use lib.ListN.{length, getD, take, drop}
+use lib.ListN.{length, take, drop}
 use lib.Seq.{ext-getD, getD-take, length-take-le}
 use Rattle.model.specs.declared.Plan.{Plan}
 use Rattle.model.specs.Rota.{tableCode}
@@ -13,23 +13,14 @@ use Rattle.model.specs.Plans.{plans, isPlan, plansAfter}
 use Rattle.model.specs.Fewest.{fewest, fewestPlans}
 use Rattle.model.specs.Allowed.{allowedWords}
 use Rattle.model.specs.Answers.{refused, unless, orElse, roomCode, firstOf, firstAnswer, nextOf, nextAnswer, fewestOf, fewestAnswer, allowedCode, allowedAfter}
-use Rattle.model.proofs.Accepted.{tables-from, accepted}
+use Rattle.model.proofs.Accepted.{tables-from}
 use Rattle.model.proofs.Laws.{few}
 use Rattle.model.proofs.Refusals.{or-first, or-later, room-enough, room-short, unless-refused, nothing-written, all-written}
 use Rattle.model.proofs.Slots.{first-wide, next-wide, fewest-wide, allowed-wide}
 use Rattle.model.proofs.Allowed.{length-allowed, allowed-at}
 use Rattle.min_cost.specs.Dual.{Square}
+use Rattle.min_cost.proofs.Squares.{squared}
 use Rattle.components.specs.Component.{Allowed}
-
--- what the fewest callouts ask
-pub squared : (n : ℕ) (opens callouts : List ℕ) → tableCode n n opens callouts ≡ 0 → Square opens callouts
-squared n opens callouts ok =
-    let A = accepted n n opens callouts ok in
-    record {
-      few = omega (arith, A .few-items, A .open-words);
-      same = A .callout-words ∙ sym (A .open-words);
-      below = λ i h. subst (λ k. getD opens i 0 < 2 ^ k) (sym (A .open-words)) (A .open-range i (omega (arith, A .open-words)));
-    }
 
 module _ (n : ℕ) (opens callouts : List ℕ) (c : ℕ) (e : c ≡ tableCode n n opens callouts) where
   module _ (d : c ≢ 0) where

@@ -2,6 +2,4 @@ pub mod Calls
 pub mod Counting
 pub mod Enumerating
 pub mod Demand3OfCalls
-pub mod OnFiles
-pub mod Buffers
 pub mod Pricing

@@ -1,20 +1,22 @@
-// The public calls, on tables of words and on the bytes of a rota file. None has a `requires`. Each answer, and each buffer lent, is
-// one function of what the call got: model's specs/Answers and specs/Enumerator.
-mod buffer;
-
+// The public calls. Those on tables of words stand here; those on the bytes of a rota file stand in `rota_file` and `file_plans` and are
+// passed on. None has a `requires`. Each answer, and each buffer lent, is one function of what the call got: model's specs/Answers
+// and specs/Enumerator.
 ghost use mathlib.Core.Path.{_≡_};
-ghost use lib.ListN.{length, take};
-ghost use Rattle.model.specs.Answers.{firstAnswer, nextAnswer, fewestAnswer, allowedCode, allowedAfter, countAnswer, countTally, gradeAnswer, gradeTally, priceAnswer, priceTally, readAnswer, readOpens, readCallouts, writeAnswer, writeFile, fileFirst, fileNext, fileFewest, bufferAfter};
+ghost use lib.ListN.{length};
+ghost use Rattle.model.specs.Answers.{firstAnswer, nextAnswer, fewestAnswer, allowedCode, allowedAfter, countAnswer, countTally, gradeAnswer, gradeTally, priceAnswer, priceTally};
 ghost use Rattle.model.specs.Enumerator.{enumeratorAnswer, enumeratorAfter};
 ghost use Rattle.rota.specs.Step.{stepOf};
+pub use file_plans::file_fewest_callouts;
+pub use file_plans::file_first_plan;
+pub use file_plans::file_next_plan;
 use model::CountAnswer;
 use model::Enumerator;
 use model::GradeAnswer;
 use model::Plan;
 use model::PlanAnswer;
 use model::PriceAnswer;
-use model::ReadAnswer;
-use model::WriteAnswer;
+pub use rota_file::read_file;
+pub use rota_file::write_file;
 
 // The first plan of a rota of n items.
 pub fn first_plan(n: usize, opens: &[u64], callouts: &[u64]) -> PlanAnswer
@@ -203,88 +205,4 @@ pub fn monthly_price(
         items: 0,
         cents: tariff::price(grade, vehicles, fewest.callouts),
     }
-}
-
-// Reads a file into two lent tables.
-pub fn read_file(file: &[u8], opens: &mut [u64], callouts: &mut [u64]) -> ReadAnswer
-    ensures answer { λ r. ⌜ r ≡ readAnswer (now (file .entry)) (length (now (opens .entry))) (length (now (callouts .entry))) ⌝ }
-    ensures opens { λ _. ⌜ now (opens .exit) ≡ readOpens (now (file .entry)) (now (opens .entry)) (now (callouts .entry)) ⌝ }
-    ensures callouts { λ _. ⌜ now (callouts .exit) ≡ readCallouts (now (file .entry)) (now (opens .entry)) (now (callouts .entry)) ⌝ }
-{
-    rota_file::read_file(file, opens, callouts)
-}
-
-// Writes the file of a rota of n items into a lent buffer.
-pub fn write_file(n: usize, opens: &[u64], callouts: &[u64], file: &mut [u8]) -> WriteAnswer
-    ensures answer { λ r. ⌜ r ≡ writeAnswer n n (now (opens .entry)) (now (callouts .entry)) (length (now (file .entry))) ⌝ }
-    ensures file { λ _. ⌜ now (file .exit) ≡ writeFile n n (now (opens .entry)) (now (callouts .entry)) (now (file .entry)) ⌝ }
-{
-    rota_file::write_file(n, opens, callouts, file)
-}
-
-// The first plan of the rota in a file, into a plan buffer.
-pub fn file_first_plan(file: &[u8], plan: &mut [u8]) -> u32
-    ensures code { λ r. ⌜ r ≡ fileFirst (now (file .entry)) (length (now (plan .entry))) .code ⌝ }
-    ensures plan { λ _. ⌜ now (plan .exit) ≡ bufferAfter (fileFirst (now (file .entry)) (length (now (plan .entry)))) (now (plan .entry)) ⌝ }
-{
-    let mut opens = [0u64; 64];
-    let mut callouts = [0u64; 64];
-    let read = rota_file::read_file(file, &mut opens, &mut callouts);
-    if read.code != 0 {
-        return read.code;
-    }
-    if plan.len() < 64 {
-        return 15;
-    }
-    let n = read.n as usize;
-    let a = least::first_plan(&opens[..n]);
-    let code = a.code;
-    let p = a.plan;
-    let slots = p.slots;
-    buffer::store_plan(code, slots, plan)
-}
-
-// The plan after the one in the buffer, into the buffer.
-pub fn file_next_plan(file: &[u8], plan: &mut [u8]) -> u32
-    ensures code { λ r. ⌜ r ≡ fileNext (now (file .entry)) (length (now (plan .entry))) (record { slots = take 64 (now (plan .entry)) }) .code ⌝ }
-    ensures plan { λ _. ⌜ now (plan .exit) ≡ bufferAfter (fileNext (now (file .entry)) (length (now (plan .entry))) (record { slots = take 64 (now (plan .entry)) })) (now (plan .entry)) ⌝ }
-{
-    let mut opens = [0u64; 64];
-    let mut callouts = [0u64; 64];
-    let read = rota_file::read_file(file, &mut opens, &mut callouts);
-    if read.code != 0 {
-        return read.code;
-    }
-    if plan.len() < 64 {
-        return 15;
-    }
-    let n = read.n as usize;
-    let given = buffer::plan_in(plan);
-    let a = next::next_plan(&opens[..n], given);
-    let code = a.code;
-    let p = a.plan;
-    let slots = p.slots;
-    buffer::store_plan(code, slots, plan)
-}
-
-// The first plan with the fewest callouts of the rota in a file, if these are at most `cap`, into a plan buffer.
-pub fn file_fewest_callouts(file: &[u8], plan: &mut [u8], cap: u32) -> u32
-    ensures code { λ r. ⌜ r ≡ fileFewest (now (file .entry)) (length (now (plan .entry))) cap .code ⌝ }
-    ensures plan { λ _. ⌜ now (plan .exit) ≡ bufferAfter (fileFewest (now (file .entry)) (length (now (plan .entry))) cap) (now (plan .entry)) ⌝ }
-{
-    let mut opens = [0u64; 64];
-    let mut callouts = [0u64; 64];
-    let read = rota_file::read_file(file, &mut opens, &mut callouts);
-    if read.code != 0 {
-        return read.code;
-    }
-    if plan.len() < 64 {
-        return 15;
-    }
-    let n = read.n as usize;
-    let a = min_cost::fewest_plan(&opens[..n], &callouts[..n], cap);
-    let code = a.code;
-    let p = a.plan;
-    let slots = p.slots;
-    buffer::store_plan(code, slots, plan)
 }

@@ -3,7 +3,7 @@ use mathlib.Core.Path.{sym}
 use native.Mathlib.Omega.{arith}
 use borrow.Author.Needs.{needs}
 use lib.Seq.{length-take-le}
-use Rattle.rota.proofs.OnFiles.{items-few, opens-fit, callouts-fit}
+use Rattle.file_plans.proofs.OnFiles.{items-few, opens-fit, callouts-fit}
 use Rattle.show.proofs.show_fd.Statement.{statement}
 use Rattle.show.proofs.show_fd.Tie as tie
 

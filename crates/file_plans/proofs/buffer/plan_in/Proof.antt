@@ -1,11 +1,11 @@
--- `rota::buffer::plan_in` meets its contract: 64 bytes are copied. Assumes nothing.
+-- `file_plans::buffer::plan_in` meets its contract: 64 bytes are copied. Assumes nothing.
 use native.Mathlib.Omega.{arith}
 use mathlib.Core.Path.{_∙_}
 use lib.Seq.{length-take-le}
-use Rattle.rota.proofs.Buffers.{copied-64}
+use Rattle.file_plans.proofs.Buffers.{copied-64}
 use borrow.Author.Needs.{needs}
-use Rattle.rota.proofs.buffer.plan_in.Statement.{statement}
-use Rattle.rota.proofs.buffer.plan_in.Tie as tie
+use Rattle.file_plans.proofs.buffer.plan_in.Statement.{statement}
+use Rattle.file_plans.proofs.buffer.plan_in.Tie as tie
 
 sub-copy : tie.Need-sub-copy
 sub-copy c = search needs

@@ -1,11 +1,11 @@
--- `rota::file_first_plan` meets its contract: refused by the file or for room, or the search's answer is stored. Assumes nothing.
+-- `file_plans::file_first_plan` meets its contract: refused by the file or for room, or the search's answer is stored. Assumes nothing.
 use mathlib.Core.Path.{sym, _∙_}
 use lib.Seq.{length-take-le}
 use Rattle.model.specs.Answers.{fileFirst, firstAnswer}
-use Rattle.rota.proofs.OnFiles.{refused-by-file, refused-by-room, stores, opens-fit, read-few, first-on-file}
+use Rattle.file_plans.proofs.OnFiles.{refused-by-file, refused-by-room, stores, opens-fit, read-few, first-on-file}
 use borrow.Author.Needs.{needs}
-use Rattle.rota.proofs.file_first_plan.Statement.{statement}
-use Rattle.rota.proofs.file_first_plan.Tie as tie
+use Rattle.file_plans.proofs.file_first_plan.Statement.{statement}
+use Rattle.file_plans.proofs.file_first_plan.Tie as tie
 
 slice-aggregate-read-file : tie.Need-slice-aggregate-read-file
 slice-aggregate-read-file c = search needs

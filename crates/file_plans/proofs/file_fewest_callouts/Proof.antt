@@ -1,11 +1,11 @@
--- `rota::file_fewest_callouts` meets its contract: refused by the file or for room, or the search's answer is stored. Assumes nothing.
+-- `file_plans::file_fewest_callouts` meets its contract: refused by the file or for room, or the search's answer is stored. Assumes nothing.
 use mathlib.Core.Path.{sym, _∙_}
 use lib.Seq.{length-take-le}
 use Rattle.model.specs.Answers.{fileFewest, fewestAnswer}
-use Rattle.rota.proofs.OnFiles.{refused-by-file, refused-by-room, stores, opens-fit, callouts-fit, read-square, fewest-on-file}
+use Rattle.file_plans.proofs.OnFiles.{refused-by-file, refused-by-room, stores, opens-fit, callouts-fit, read-square, fewest-on-file}
 use borrow.Author.Needs.{needs}
-use Rattle.rota.proofs.file_fewest_callouts.Statement.{statement}
-use Rattle.rota.proofs.file_fewest_callouts.Tie as tie
+use Rattle.file_plans.proofs.file_fewest_callouts.Statement.{statement}
+use Rattle.file_plans.proofs.file_fewest_callouts.Tie as tie
 
 slice-aggregate-read-file : tie.Need-slice-aggregate-read-file
 slice-aggregate-read-file c = search needs

@@ -20,7 +20,7 @@ use Rattle.model.proofs.Files.{accepted-file}
 use Rattle.model.proofs.Refusals.{or-first, or-later, room-enough, room-short, unless-refused, nothing-written}
 use Rattle.model.proofs.Slots.{first-wide, next-wide, fewest-wide}
 use Rattle.min_cost.specs.Dual.{Square}
-use Rattle.rota.proofs.Calls.{squared}
+use Rattle.min_cost.proofs.Squares.{squared}
 use Rattle.rota_file.proofs.RoundTrips.{items-read, opens-read, callouts-read}
 
 abbrev zeros : List ℕ

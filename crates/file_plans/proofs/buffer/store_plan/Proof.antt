@@ -1,12 +1,12 @@
--- `rota::buffer::store_plan` meets its contract: a refusal keeps the buffer, a success copies the plan. Assumes nothing.
+-- `file_plans::buffer::store_plan` meets its contract: a refusal keeps the buffer, a success copies the plan. Assumes nothing.
 use mathlib.Core.Path.{_≡_, refl, sym}
 use native.Mathlib.Omega.{arith}
 use lib.ListN.{length}
 use Rattle.model.proofs.Refusals.{nothing-written}
-use Rattle.rota.proofs.Buffers.{plan-stored}
+use Rattle.file_plans.proofs.Buffers.{plan-stored}
 use borrow.Author.Needs.{needs}
-use Rattle.rota.proofs.buffer.store_plan.Statement.{statement}
-use Rattle.rota.proofs.buffer.store_plan.Tie as tie
+use Rattle.file_plans.proofs.buffer.store_plan.Statement.{statement}
+use Rattle.file_plans.proofs.buffer.store_plan.Tie as tie
 
 returns : tie.Need-returns
 returns c = (refl, nothing-written _ _ (c .if1 .taken) refl _ _)

@@ -1,4 +1,4 @@
--- `rota::file_next_plan` meets its contract: refused by the file or for room, or the search's answer is stored. Assumes nothing.
+-- `file_plans::file_next_plan` meets its contract: refused by the file or for room, or the search's answer is stored. Assumes nothing.
 use mathlib.Core.Path.{sym, ap, _∙_}
 use mathlib.Core.List.{List}
 use Prim.Native.Nat.{ℕ}
@@ -8,10 +8,10 @@ use Rattle.model.specs.declared.Plan.{Plan}
 use Rattle.model.specs.declared.PlanAnswer.{PlanAnswer}
 use Rattle.model.specs.File.{itemsIn, opensIn, calloutsIn}
 use Rattle.model.specs.Answers.{fileNext, nextAnswer}
-use Rattle.rota.proofs.OnFiles.{refused-by-file, refused-by-room, stores, opens-fit, read-few, next-on-file}
+use Rattle.file_plans.proofs.OnFiles.{refused-by-file, refused-by-room, stores, opens-fit, read-few, next-on-file}
 use borrow.Author.Needs.{needs}
-use Rattle.rota.proofs.file_next_plan.Statement.{statement}
-use Rattle.rota.proofs.file_next_plan.Tie as tie
+use Rattle.file_plans.proofs.file_next_plan.Statement.{statement}
+use Rattle.file_plans.proofs.file_next_plan.Tie as tie
 
 slice-aggregate-read-file : tie.Need-slice-aggregate-read-file
 slice-aggregate-read-file c = search needs

@@ -1,0 +1,2 @@
+pub mod OnFiles
+mod Buffers
