@@ -130,6 +130,12 @@ pub fn families(n: usize) -> Vec<Family> {
     ]
 }
 
+/// The diagonal is the only plan, and its cells alone are callouts: each round of the search for the fewest callouts serves one item.
+pub fn hardest(n: usize) -> Rota {
+    let opens = triangle_up(n).opens;
+    Rota { opens, callouts: (0..n).map(|i| 1 << i).collect() }
+}
+
 /// The families that are counted.
 pub fn counted(n: usize) -> Vec<Family> {
     vec![one("dense", dense(n)), random("random 6 and a plan", |r| hidden(n, 6, r)), one("triangle up", triangle_up(n))]

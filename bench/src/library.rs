@@ -1,6 +1,6 @@
 //! The library's C calls, with Rust's slices.
 
-use crate::records::{CountAnswer, GradeAnswer, Plan, PlanAnswer, PriceAnswer, ReadAnswer, WriteAnswer};
+use crate::records::{CountAnswer, GradeAnswer, Lister, Plan, PlanAnswer, PriceAnswer, ReadAnswer, WriteAnswer};
 
 mod c {
     use super::*;
@@ -14,6 +14,14 @@ mod c {
             c: *const u64,
             c_len: usize,
             given: Plan,
+        ) -> PlanAnswer;
+        pub fn rota_list_plan(
+            lister: *mut Lister,
+            n: usize,
+            o: *const u64,
+            o_len: usize,
+            c: *const u64,
+            c_len: usize,
         ) -> PlanAnswer;
         pub fn rota_fewest_callouts(
             n: usize,
@@ -77,6 +85,15 @@ mod c {
             file: *mut u8,
             file_len: usize,
         ) -> WriteAnswer;
+        pub fn rota_file_first_plan(file: *const u8, file_len: usize, plan: *mut u8, plan_len: usize) -> u32;
+        pub fn rota_file_next_plan(file: *const u8, file_len: usize, plan: *mut u8, plan_len: usize) -> u32;
+        pub fn rota_file_fewest_callouts(
+            file: *const u8,
+            file_len: usize,
+            plan: *mut u8,
+            plan_len: usize,
+            cap: u32,
+        ) -> u32;
     }
 }
 
@@ -86,6 +103,10 @@ pub fn first_plan(n: usize, o: &[u64], c: &[u64]) -> PlanAnswer {
 
 pub fn next_plan(n: usize, o: &[u64], c: &[u64], given: Plan) -> PlanAnswer {
     unsafe { c::rota_next_plan(n, o.as_ptr(), o.len(), c.as_ptr(), c.len(), given) }
+}
+
+pub fn list_plan(lister: &mut Lister, n: usize, o: &[u64], c: &[u64]) -> PlanAnswer {
+    unsafe { c::rota_list_plan(lister, n, o.as_ptr(), o.len(), c.as_ptr(), c.len()) }
 }
 
 pub fn fewest_callouts(n: usize, o: &[u64], c: &[u64], cap: u32) -> PlanAnswer {
@@ -115,4 +136,16 @@ pub fn read_file(file: &[u8], o: &mut [u64], c: &mut [u64]) -> ReadAnswer {
 
 pub fn write_file(n: usize, o: &[u64], c: &[u64], file: &mut [u8]) -> WriteAnswer {
     unsafe { c::rota_write_file(n, o.as_ptr(), o.len(), c.as_ptr(), c.len(), file.as_mut_ptr(), file.len()) }
+}
+
+pub fn file_first_plan(file: &[u8], plan: &mut [u8]) -> u32 {
+    unsafe { c::rota_file_first_plan(file.as_ptr(), file.len(), plan.as_mut_ptr(), plan.len()) }
+}
+
+pub fn file_next_plan(file: &[u8], plan: &mut [u8]) -> u32 {
+    unsafe { c::rota_file_next_plan(file.as_ptr(), file.len(), plan.as_mut_ptr(), plan.len()) }
+}
+
+pub fn file_fewest_callouts(file: &[u8], plan: &mut [u8], cap: u32) -> u32 {
+    unsafe { c::rota_file_fewest_callouts(file.as_ptr(), file.len(), plan.as_mut_ptr(), plan.len(), cap) }
 }

@@ -8,8 +8,8 @@ mod same;
 mod side;
 mod timing;
 
-use families::{counted, families, Family, Rota};
-use records::Plan;
+use families::{counted, families, hardest, Family, Rota};
+use records::{Lister, Plan};
 use side::{Side, LIBRARY, RUST};
 use std::fmt::Debug;
 use std::hint::black_box;
@@ -58,10 +58,10 @@ fn heading(first: &str, calls: &[&str]) {
     println!();
 }
 
-fn plans(report: &mut Report, n: usize) {
+fn plans(report: &mut Report, n: usize, families: Vec<Family>) {
     println!("\nPlans, n = {n}, µs a call");
     heading("family", &["first", "next", "usable", "fewest"]);
-    for Family { name, rotas } in families(n) {
+    for Family { name, rotas } in families {
         let first: Vec<_> = rotas.iter().map(|r| agree(name, |s| (s.first_plan)(n, &r.opens, &r.callouts))).collect();
         for (r, first) in rotas.iter().zip(&first) {
             agree(name, |s| (s.next_plan)(n, &r.opens, &r.callouts, first.plan));
@@ -164,6 +164,18 @@ fn growth(report: &mut Report) {
         }
         println!();
     }
+    println!("\nGrowth of the fewest callouts where the search has n rounds, µs a call");
+    heading("n", &["triangle up, callouts on the diagonal alone"]);
+    for n in [8, 16, 32, 64] {
+        let Rota { opens, callouts } = hardest(n);
+        agree("hardest", |s| (s.fewest_callouts)(n, &opens, &callouts, u32::MAX));
+        print!("| {n} |");
+        let t = times(report.rounds, 1, |s| {
+            black_box((s.fewest_callouts)(black_box(n), &opens, &callouts, u32::MAX));
+        });
+        report.cell(format!("triangle up, callouts on the diagonal alone, fewest, n = {n}"), None, t);
+        println!();
+    }
     println!("\nGrowth of the count, µs a call");
     heading("n", &["dense", "random 6 and a plan", "triangle up"]);
     for n in [8, 12, 16, 20] {
@@ -176,6 +188,47 @@ fn growth(report: &mut Report) {
                 black_box((s.count_plans)(black_box(n), &r.opens, &r.callouts, black_box(&mut tally)));
             });
             report.cell(format!("{name}, count, n = {n}"), None, t);
+        }
+        println!();
+    }
+}
+
+/// The lister from a fresh one and from the first plan, and the calls on files.
+fn desk(report: &mut Report) {
+    println!("\nThe lister and the plan calls on files, random 6 and a plan, µs a call");
+    heading("n", &["list, fresh", "list, started", "file first", "file next", "file fewest"]);
+    for n in [20, 64] {
+        let Rota { opens, callouts } = families::hidden(n, 6, &mut random::Random::new(1));
+        let mut file = vec![0; 1536];
+        let bytes = (LIBRARY.write_file)(n, &opens, &callouts, &mut file).bytes as usize;
+        let file = &file[..bytes];
+        let fresh = Lister { started: false, plan: Plan { slots: [0; 64] } };
+        let list = |s: &Side, mut lister: Lister| {
+            let answer = (s.list_plan)(&mut lister, n, &opens, &callouts);
+            (answer, lister)
+        };
+        let started = agree("list", |s| list(s, fresh)).1;
+        agree("list", |s| list(s, started));
+        let on_file =
+            |call: fn(&Side, &[u8], &mut [u8]) -> u32, s: &Side, mut plan: Plan| (call(s, file, &mut plan.slots), plan);
+        let calls: [(&str, fn(&Side, &[u8], &mut [u8]) -> u32); 3] = [
+            ("file first", |s, file, plan| (s.file_first_plan)(file, plan)),
+            ("file next", |s, file, plan| (s.file_next_plan)(file, plan)),
+            ("file fewest", |s, file, plan| (s.file_fewest_callouts)(file, plan, u32::MAX)),
+        ];
+        print!("| {n} |");
+        for (what, lister) in [("list, fresh", fresh), ("list, started", started)] {
+            let t = times(report.rounds, 1, |s| {
+                black_box(list(s, black_box(lister)));
+            });
+            report.cell(format!("{what}, n = {n}"), None, t);
+        }
+        for (what, call) in calls {
+            agree(what, |s| on_file(call, s, started.plan));
+            let t = times(report.rounds, 1, |s| {
+                black_box(on_file(call, s, black_box(started.plan)));
+            });
+            report.cell(format!("{what}, n = {n}"), None, t);
         }
         println!();
     }
@@ -226,8 +279,10 @@ fn main() {
     let rounds = std::env::args().nth(1).map_or(1500, |text| text.parse().expect("the rounds are a number"));
     let mut report = Report { rounds, missed: Vec::new() };
     machine();
-    plans(&mut report, 64);
+    plans(&mut report, 64, families(64));
+    plans(&mut report, 20, counted(20));
     counts(&mut report, 20);
+    desk(&mut report);
     growth(&mut report);
     files(&mut report);
     println!("\nTargets missed: {}", report.missed.len());

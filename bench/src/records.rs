@@ -18,6 +18,13 @@ pub struct PlanAnswer {
 
 #[repr(C)]
 #[derive(Clone, Copy, PartialEq, Eq, Debug)]
+pub struct Lister {
+    pub started: bool,
+    pub plan: Plan,
+}
+
+#[repr(C)]
+#[derive(Clone, Copy, PartialEq, Eq, Debug)]
 pub struct CountAnswer {
     pub code: u32,
     pub count: u64,

@@ -1,12 +1,13 @@
 //! The two sides, called through pointers alike.
 
 use crate::library;
-use crate::records::{CountAnswer, GradeAnswer, Plan, PlanAnswer, PriceAnswer, ReadAnswer, WriteAnswer};
-use crate::same::rota;
+use crate::records::{CountAnswer, GradeAnswer, Lister, Plan, PlanAnswer, PriceAnswer, ReadAnswer, WriteAnswer};
+use crate::same::{file_plans, rota, rota_file};
 
 pub struct Side {
     pub first_plan: fn(usize, &[u64], &[u64]) -> PlanAnswer,
     pub next_plan: fn(usize, &[u64], &[u64], Plan) -> PlanAnswer,
+    pub list_plan: fn(&mut Lister, usize, &[u64], &[u64]) -> PlanAnswer,
     pub fewest_callouts: fn(usize, &[u64], &[u64], u32) -> PlanAnswer,
     pub usable_slots: fn(usize, &[u64], &[u64], &mut [u64]) -> u32,
     pub count_plans: fn(usize, &[u64], &[u64], &mut [u64]) -> CountAnswer,
@@ -14,11 +15,15 @@ pub struct Side {
     pub monthly_price: fn(usize, &[u64], &[u64], u64, &mut [u64]) -> PriceAnswer,
     pub read_file: fn(&[u8], &mut [u64], &mut [u64]) -> ReadAnswer,
     pub write_file: fn(usize, &[u64], &[u64], &mut [u8]) -> WriteAnswer,
+    pub file_first_plan: fn(&[u8], &mut [u8]) -> u32,
+    pub file_next_plan: fn(&[u8], &mut [u8]) -> u32,
+    pub file_fewest_callouts: fn(&[u8], &mut [u8], u32) -> u32,
 }
 
 pub static LIBRARY: Side = Side {
     first_plan: library::first_plan,
     next_plan: library::next_plan,
+    list_plan: library::list_plan,
     fewest_callouts: library::fewest_callouts,
     usable_slots: library::usable_slots,
     count_plans: library::count_plans,
@@ -26,16 +31,23 @@ pub static LIBRARY: Side = Side {
     monthly_price: library::monthly_price,
     read_file: library::read_file,
     write_file: library::write_file,
+    file_first_plan: library::file_first_plan,
+    file_next_plan: library::file_next_plan,
+    file_fewest_callouts: library::file_fewest_callouts,
 };
 
 pub static RUST: Side = Side {
     first_plan: rota::first_plan,
     next_plan: rota::next_plan,
+    list_plan: rota::list_plan,
     fewest_callouts: rota::fewest_callouts,
     usable_slots: rota::usable_slots,
     count_plans: rota::count_plans,
     grade: rota::grade,
     monthly_price: rota::monthly_price,
-    read_file: rota::read_file,
-    write_file: rota::write_file,
+    read_file: rota_file::read_file,
+    write_file: rota_file::write_file,
+    file_first_plan: file_plans::file_first_plan,
+    file_next_plan: file_plans::file_next_plan,
+    file_fewest_callouts: file_plans::file_fewest_callouts,
 };

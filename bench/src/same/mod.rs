@@ -2,7 +2,9 @@
 
 mod acceptance;
 mod augment;
+mod buffer;
 mod components;
+pub mod file_plans;
 mod layout;
 mod least;
 mod maximum;
@@ -13,7 +15,7 @@ mod permanent;
 mod reader;
 mod reading;
 pub mod rota;
-mod rota_file;
+pub mod rota_file;
 mod tariff;
 mod words;
 mod writing;
