@@ -36,6 +36,32 @@ pub fn fill(opens: &[u64], owner: &mut [u8; 64], slot: &mut [u8; 64], free: u64,
     Maximum { free: f, exposed: exposed, dead: dead }
 }
 
+// The slots open to any item of a set.
+pub fn neighbours(opens: &[u64], items: u64) -> u64 {
+    let mut all: u64 = 0;
+    let mut left = items;
+    while left != 0 {
+        let x = words::lowest(left);
+        left = words::without_lowest(left);
+        all = all | opens[x];
+    }
+    all
+}
+
+// `fill` for the items that stayed exposed, once the open words have changed but the slots of `dead` are still led to. What is
+// led to now is found from all of them at once, so a search that fails again does not walk them one by one.
+pub fn refill(opens: &[u64], owner: &mut [u8; 64], slot: &mut [u8; 64], free: u64, exposed: u64, dead: u64) -> Maximum {
+    let set = dead | neighbours(opens, exposed);
+    if set & free != 0 {
+        return fill(opens, owner, slot, free, exposed);
+    }
+    let r = augment::vacate(opens, owner, slot, free, set, set);
+    if r.at == 64 {
+        return Maximum { free: free, exposed: exposed, dead: r.word };
+    }
+    fill(opens, owner, slot, r.word, exposed)
+}
+
 // The deficient set: the exposed items and the holders of the dead slots.
 pub fn deficient_set(owner: &[u8; 64], exposed: u64, dead: u64) -> u64 {
     let mut all = exposed;

@@ -1,12 +1,13 @@
 // Maximum matchings, and the deficient set that shows that no matching is larger (document 01's shortage). The tables are those
 // of `augment`.
 ghost use mathlib.Core.Path.{_≡_};
-ghost use Prim.Native.Nat.{ℕ, _<_};
+ghost use Prim.Native.Nat.{ℕ, _^_, _≤_, _<_};
 ghost use lib.Bits.{bitOr};
 ghost use lib.ListN.{length};
 ghost use Rattle.words.specs.Word.{bit};
+ghost use Rattle.model.specs.Deficiency.{neighbours};
 ghost use Rattle.augment.specs.Table.{own};
-ghost use Rattle.maximum.specs.Maximum.{Fillable, Filled, holders, deficientBy};
+ghost use Rattle.maximum.specs.Maximum.{Fillable, Filled, Refillable, holders, deficientBy};
 use model::Plan;
 use model::PlanAnswer;
 
@@ -53,6 +54,49 @@ pub fn fill(
         exposed: exposed,
         dead: dead,
     }
+}
+
+// The slots open to any item of a set.
+pub fn neighbours(opens: &[u64], items: u64) -> u64
+    requires { ⌜ (length (now opens) ≤ 64) × (items < 2 ^ length (now opens)) ⌝ }
+    ensures { λ r. ⌜ r ≡ neighbours (now (opens .entry)) items ⌝ }
+{
+    let mut all: u64 = 0;
+    let mut left = items;
+    while left != 0 {
+        let x = words::lowest(left);
+        left = words::without_lowest(left);
+        all = all | opens[x];
+    }
+    all
+}
+
+// `fill` for the items that stayed exposed, once the open words have changed but the slots of `dead` are still led to. What is
+// led to now is found from all of them at once, so a search that fails again does not walk them one by one.
+pub fn refill(
+    opens: &[u64],
+    owner: &mut [u8; 64],
+    slot: &mut [u8; 64],
+    free: u64,
+    exposed: u64,
+    dead: u64,
+) -> Maximum
+    requires { ⌜ Refillable (now opens) (now owner) (now slot) free exposed dead ⌝ }
+    ensures { λ r. ⌜ Filled (now (opens .entry)) (now (owner .exit)) (now (slot .exit)) (r .free) (r .exposed) (r .dead) ⌝ }
+{
+    let set = dead | neighbours(opens, exposed);
+    if set & free != 0 {
+        return fill(opens, owner, slot, free, exposed);
+    }
+    let r = augment::vacate(opens, owner, slot, free, set, set);
+    if r.at == 64 {
+        return Maximum {
+            free: free,
+            exposed: exposed,
+            dead: r.word,
+        };
+    }
+    fill(opens, owner, slot, r.word, exposed)
 }
 
 // The deficient set: the exposed items and the holders of the dead slots.

@@ -11,14 +11,15 @@ use lib.ListN.{length, getD, set, replicate, getD-replicate}
 use lib.Seq.{getD-set-other}
 use Rattle.words.specs.Word.{bit, low}
 use Rattle.words.specs.Sum.{sum}
-use Rattle.words.proofs.Bits.{bit-lt, bit-empty, bit-low}
+use Rattle.words.proofs.Bits.{bit-lt, bit-empty, bit-low, bit-or}
 use Rattle.words.proofs.Sets.{ones-sum, ones-none, high-empty}
 use Rattle.words.proofs.Sums.{sum-cong, sum-add}
 use Rattle.model.specs.Plans.{IsPlan}
 use Rattle.model.proofs.Laws.{callouts-le}
 use Rattle.augment.specs.Table.{own, cell}
+use Rattle.augment.specs.Search.{Within}
 use Rattle.augment.proofs.Moves.{same-or}
-use Rattle.maximum.specs.Maximum.{Fillable, Filled, holders}
+use Rattle.maximum.specs.Maximum.{Fillable, Filled, Refillable, holders}
 use Rattle.maximum.proofs.Deficient.{deficient-lt, deficient-ones, deficient-shut, deficient-holder}
 use Rattle.min_cost.specs.Dual.{Square, Levels, Lifted, tightWord, Repriceable, Repriced}
 use Rattle.min_cost.proofs.Levels.{tight-bit}
@@ -80,27 +81,53 @@ module _ {w c : List ℕ} (S : Square w c) {u v : ℕ → ℕ} {r : ℕ} {t : Li
             omega (arith, order, D .total, up-sum, sum-add (λ i. u i + 1) (bit up) n, sum-add v (bit d) n);
       }
 
-  -- held cells stay tight
-  pub refillable : {t′ : List ℕ} → Tight w c u₁ v₁ t′ → Fillable t′ o p f e
-  refillable {t′} T′ =
-      let same : length t ≡ length t′ = T .sized ∙ sym (T′ .sized) in
-      record {
-        table = record {
-          few = omega (arith, F .table .few, same);
-          range = T′ .range;
-          owners = F .table .owners;
-          slots = F .table .slots;
-          item = λ k h b. omega (arith, F .table .item k h b, same);
-          open-cell = λ k h b.
-              let q = held-tight k h b in
-              open-tight T′ (own o k) k (holder-known k h b) h (q .0) (omega (arith, q .1, deficient-holder t o p f e d F k h b));
-          back = F .table .back;
-          zeros = λ x h g. F .table .zeros x (omega (arith, same)) g;
-        };
-        items = subst (λ n. e < 2 ^ n) same (F .items);
-        exposed = F .exposed;
-        matched = λ x h b. F .matched x (omega (arith, same)) b;
-      }
+  module _ {t′ : List ℕ} (T′ : Tight w c u₁ v₁ t′) where
+    same : length t ≡ length t′
+    same = T .sized ∙ sym (T′ .sized)
+
+    -- held cells stay tight
+    fillable : Fillable t′ o p f e
+    fillable =
+        record {
+          table = record {
+            few = omega (arith, F .table .few, same);
+            range = T′ .range;
+            owners = F .table .owners;
+            slots = F .table .slots;
+            item = λ k h b. omega (arith, F .table .item k h b, same);
+            open-cell = λ k h b.
+                let q = held-tight k h b in
+                open-tight T′ (own o k) k (holder-known k h b) h (q .0) (omega (arith, q .1, deficient-holder t o p f e d F k h b));
+            back = F .table .back;
+            zeros = λ x h g. F .table .zeros x (omega (arith, same)) g;
+          };
+          items = subst (λ n. e < 2 ^ n) same (F .items);
+          exposed = F .exposed;
+          matched = λ x h b. F .matched x (omega (arith, same)) b;
+        }
+
+    -- and so do the cells that were tight to an item that is raised
+    still : (i g : ℕ) → i < length t → bit up i ≡ 1 → Within (getD t′ i 0) g → Within (getD t i 0) g
+    still i g h a near k l =
+        let known : i < length w = omega (arith, T .sized) in
+        same-or (cell t i k) 1
+        (λ z.
+        let q = tight-open T i k known l z in
+        let b : bit d k ≡ 1 = omega (arith, deficient-shut t o p f e d F i h a k l, bit-lt d k) in
+        omega (arith, open-tight T′ i k known l (q .0) (omega (arith, q .1)), near k l))
+        (λ m. omega (arith, bit-lt (getD t i 0) k))
+
+    pub refillable : Refillable t′ o p f e d
+    refillable =
+        record {
+          fillable = fillable;
+          held = F .dead .held;
+          led = λ g near far. F .dead .least g
+              (λ x h b. still x g h (omega (arith, bit-or e (holders o d) x, bit-lt (holders o d) x)) (near x (omega (arith, same)) b))
+              (λ k h b c.
+              let z = F .dead .held k h c in
+              still (own o k) g (F .table .item k h z) (deficient-holder t o p f e d F k h z ∙ c) (far k h b c));
+        }
 
 -- ---- the loop
 

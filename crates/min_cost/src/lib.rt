@@ -73,7 +73,7 @@ fn cheapest(opens: &[u64], callouts: &[u64], tight: &mut [u64]) -> Cheap
         let up = maximum::deficient_set(&owner, m.exposed, m.dead);
         lift(&mut level, m.dead);
         reprice(opens, callouts, &level, &mut price, tight, up);
-        m = maximum::fill(tight, &mut owner, &mut slot, m.free, m.exposed);
+        m = maximum::refill(tight, &mut owner, &mut slot, m.free, m.exposed, m.dead);
     }
     least::settle(tight, &mut owner, &mut slot, m.free, 0, 0);
     Cheap {

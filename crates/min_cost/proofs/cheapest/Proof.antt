@@ -50,8 +50,8 @@ reprice-requires-2 c κs =
     ready-repriceable (P .0) (raise-ready (P .0) (P .1) (l .loop .inv) (s .before .if1 .taken) (s .size .ensures) (f .lift .ensures) (f .before .before .deficient-set .ensures))
     (l .loop .inv .tight .sized)
 
-fill-requires-2 : tie.Need-fill-requires-2 Inv-loop μ-loop
-fill-requires-2 c κs =
+refill-requires : tie.Need-refill-requires Inv-loop μ-loop
+refill-requires c κs =
     let a = c .before .before .before .before .before in
     let f = a .before .before .before .before in
     let s = f .before .before .before .before in
@@ -74,7 +74,7 @@ loop-again c =
     let l = s .before .before .before in
     let P = start-of l .pre in
     ready-rounds (P .0) (raise-ready (P .0) (P .1) (l .loop .inv) (s .before .if1 .taken) (s .size .ensures) (f .lift .ensures) (f .before .before .deficient-set .ensures))
-    (a .reprice2 .ensures) (c .fill2 .ensures)
+    (a .reprice2 .ensures) (c .refill .ensures)
 
 settle-requires : tie.Need-settle-requires Inv-loop μ-loop
 settle-requires c κs =
@@ -104,7 +104,7 @@ cheapest-spec =
     (λ c κs. dead-owners _ _ _ _ _ _ (c .before .before .before .before .loop .inv .filled))
     (λ c κs. c .before .before .before .before .before .before .loop .inv .ready .levels .sized)
     reprice-requires-2
-    fill-requires-2
+    refill-requires
     loop-less
     loop-again
     settle-requires

@@ -1,0 +1,43 @@
+-- `maximum::refill` meets its contract: a free slot is at hand, or none can be made free, or one is. Assumes nothing.
+use borrow.Author.Needs.{needs}
+use Rattle.maximum.proofs.Refilling.{refill-vacatable, refill-closed, refill-vacated}
+use Rattle.maximum.proofs.refill.Statement.{statement}
+use Rattle.maximum.proofs.refill.Tie as tie
+
+neighbours-requires : tie.Need-neighbours-requires
+neighbours-requires c κs = let F = c .before .pre .fillable in (F .table .few, F .items)
+
+fill-requires : tie.Need-fill-requires
+fill-requires c κs = c .before .before .before .before .before .pre .fillable
+
+returns : tie.Need-returns
+returns c = c .fill .ensures
+
+vacate-requires : tie.Need-vacate-requires
+vacate-requires c κs = refill-vacatable (c .before .before .before .before .before .pre) (c .before .before .before .neighbours .ensures) (c .before .before .if1 .left)
+
+returns-2 : tie.Need-returns-2
+returns-2 c =
+    let r = c .before .before .vacate .ensures .1 (c .if2 .taken) in
+    let n = c .before .before .before .before .before .before in
+    rw (r .0 .owner, r .0 .slot) (refill-closed (n .before .before .pre) (n .neighbours .ensures) (search needs) (r .1))
+
+fill-requires-2 : tie.Need-fill-requires-2
+fill-requires-2 c κs =
+    let n = c .before .before .before .before .before .before .before .before in
+    refill-vacated (n .before .before .pre) (n .neighbours .ensures) (c .before .before .before .before .vacate .ensures .0 (c .before .before .if2 .left))
+
+returns-3 : tie.Need-returns-3
+returns-3 c = c .fill2 .ensures
+
+pub refill-spec : {M : Type 1} → statement M
+refill-spec =
+    tie.close
+    (tie.spec
+    neighbours-requires
+    fill-requires
+    returns
+    vacate-requires
+    returns-2
+    fill-requires-2
+    returns-3)
