@@ -42,7 +42,7 @@ pub fn mover(opens: &[u64], owner: &[u8; 64], set: u64, h: usize) -> usize {
 }
 
 // The holder of a slot of `set` goes to the free slot h.
-pub fn pass(opens: &[u64], owner: &mut [u8; 64], slot: &mut [u8; 64], free: u64, set: u64, h: usize) -> Found {
+pub fn relocate(opens: &[u64], owner: &mut [u8; 64], slot: &mut [u8; 64], free: u64, set: u64, h: usize) -> Found {
     let k = mover(opens, owner, set, h);
     let y = holder(owner, k);
     owner[h] = y as u8;
@@ -56,7 +56,7 @@ pub fn vacate(opens: &[u64], owner: &mut [u8; 64], slot: &mut [u8; 64], free: u6
     let reach = span(opens, owner, set);
     let hit = reach & free;
     if hit != 0 {
-        return pass(opens, owner, slot, free, set, words::lowest(hit));
+        return relocate(opens, owner, slot, free, set, words::lowest(hit));
     }
     let layer = words::minus(reach, seen);
     if layer == 0 {
@@ -66,7 +66,7 @@ pub fn vacate(opens: &[u64], owner: &mut [u8; 64], slot: &mut [u8; 64], free: u6
     if r.at == 64 {
         return r;
     }
-    pass(opens, owner, slot, r.word, set, r.at)
+    relocate(opens, owner, slot, r.word, set, r.at)
 }
 
 // Item x, which holds no slot, gets one of `cand` if that is possible with the slots of `keep` left to their holders.

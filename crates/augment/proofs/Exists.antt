@@ -11,9 +11,9 @@ use lib.Count.{ones}
 use lib.ListN.{set}
 use Rattle.words.specs.Word.{with, without, minus, lowest}
 use Rattle.augment.specs.Table.{own, span}
-use Rattle.augment.specs.Search.{Passable, Passed, Vacatable, Vacated, Closed, Assignable, Assigned, Barred}
+use Rattle.augment.specs.Search.{Relocatable, Relocated, Vacatable, Vacated, Closed, Assignable, Assigned, Barred}
 use Rattle.augment.proofs.Spans.{span-from}
-use Rattle.augment.proofs.Searches.{passed, at-hand, vacated-at-hand, nothing-new, next-vacatable, next-more, next-lt, next-closed, next-passable, next-vacated, at-once, assign-vacatable, assign-barred, assign-found}
+use Rattle.augment.proofs.Searches.{relocated, at-hand, vacated-at-hand, nothing-new, next-vacatable, next-more, next-lt, next-closed, next-relocatable, next-vacated, at-once, assign-vacatable, assign-barred, assign-found}
 
 -- tables afterwards
 pub record After (P : List ℕ → List ℕ → ℕ → ℕ → Type 0) : Type 0 where
@@ -23,15 +23,15 @@ pub record After (P : List ℕ → List ℕ → ℕ → ℕ → Type 0) : Type 0
   pub at : ℕ
   pub holds : P owner slot free at
 
-pass : (w o p : List ℕ) (f set′ h : ℕ) → Passable w o p f set′ h → After (Passed w o p f set′ h)
-pass w o p f set′ h P =
+relocate : (w o p : List ℕ) (f set′ h : ℕ) → Relocatable w o p f set′ h → After (Relocated w o p f set′ h)
+relocate w o p f set′ h P =
     let r = span-from w o set′ h (P .reached) in
     record {
       owner = set o h (own o (r .0));
       slot = set p (own o (r .0)) h;
       free = without (with f (r .0)) h;
       at = r .0;
-      holds = passed w o p f set′ h P (r .0) (record { below = r .1; from = r .2; may = r .3 });
+      holds = relocated w o p f set′ h P (r .0) (record { below = r .1; from = r .2; may = r .3 });
     }
 
 abbrev Outcome : List ℕ → List ℕ → List ℕ → ℕ → ℕ → ℕ → Type 0
@@ -47,7 +47,7 @@ module _ (w o p : List ℕ) (f set′ seen : ℕ) (fits : seen < 2 ^ 64) (Z : Va
     where
       onward : bitAnd (span w o set′) f ≡ 0 → Outcome w o p f layer (bitOr seen layer) → Outcome w o p f set′ seen
       onward none (inl r) =
-          let q = pass w (r .owner) (r .slot) (r .free) set′ (r .at) (next-passable w o p f set′ seen fits Z none _ _ _ _ (r .holds)) in
+          let q = relocate w (r .owner) (r .slot) (r .free) set′ (r .at) (next-relocatable w o p f set′ seen fits Z none _ _ _ _ (r .holds)) in
           inl (record {
             owner = q .owner;
             slot = q .slot;
@@ -61,7 +61,7 @@ module _ (w o p : List ℕ) (f set′ seen : ℕ) (fits : seen < 2 ^ 64) (Z : Va
       go (no z) d =
           let h = lowest (bitAnd (span w o set′) f) in
           let A = at-hand w o p f set′ seen fits Z h z refl in
-          let r = pass w o p f set′ h A in
+          let r = relocate w o p f set′ h A in
           inl (record { owner = r .owner; slot = r .slot; free = r .free; at = r .at; holds = vacated-at-hand w o p f set′ seen fits Z h A _ _ _ _ (r .holds) })
       go (yes none) (yes e) = inr (seen, nothing-new w o p f set′ seen fits Z none e)
       go (yes none) (no z) = onward none (ih none z)

@@ -1,4 +1,4 @@
--- The steps of `pass`, `vacate` and `assign`, as plain mathematics. Assumes nothing.
+-- The steps of `relocate`, `vacate` and `assign`, as plain mathematics. Assumes nothing.
 use mathlib.Core.Path.{_≡_, refl, sym, ap, _∙_, subst}
 use mathlib.Core.Logic.{_≢_}
 use mathlib.Core.List.{List}
@@ -11,7 +11,7 @@ use Rattle.words.specs.Word.{bit, with, without, minus, lowest}
 use Rattle.words.proofs.Bits.{bit-lt, bit-empty, bit-and, bit-or, bit-minus, bit-with, bit-with-other}
 use Rattle.words.proofs.Sets.{bit-with-le, minus-le, ones-proper, lowest-lt, bit-lowest}
 use Rattle.augment.specs.Table.{own, cell, Table, Matched, Exposed, Owners, span}
-use Rattle.augment.specs.Search.{Movable, Mover, Passable, Passed, Vacatable, Vacated, Closed, Assignable, Assigned, Barred}
+use Rattle.augment.specs.Search.{Movable, Mover, Relocatable, Relocated, Vacatable, Vacated, Closed, Assignable, Assigned, Barred}
 use Rattle.augment.proofs.Spans.{span-into, span-from, span-lt, span-same}
 use Rattle.augment.proofs.Moves.{same-or, holder-matched, release-table, release-exposed, release-stay, release-new, take-table, take-own, take-free, take-slot, take-holds, take-stay, take-new}
 
@@ -35,11 +35,11 @@ common a b h l z e =
 apart : (a b k : ℕ) → bitAnd a b ≡ 0 → bit a k ≡ 1 → bit b k ≡ 0
 apart a b k z e = omega (arith, bit-and a b k, ap (λ x. bit x k) z, bit-empty k)
 
--- ---- pass: the holder of slot k goes to the free slot h
+-- ---- relocate: the holder of slot k goes to the free slot h
 
-module _ (w o p : List ℕ) (f set′ h : ℕ) (P : Passable w o p f set′ h) where
-  pub pass-movable : Movable w o set′ h
-  pass-movable =
+module _ (w o p : List ℕ) (f set′ h : ℕ) (P : Relocatable w o p f set′ h) where
+  pub relocate-movable : Movable w o set′ h
+  relocate-movable =
       let T = P .table in
       record {
         owners = record { few = T .few; range = T .range; owners = T .owners; item = λ k l b. T .item k l (P .held k l b) };
@@ -54,8 +54,8 @@ module _ (w o p : List ℕ) (f set′ h : ℕ) (P : Passable w o p f set′ h) w
     held : bit f k ≡ 0
     held = P .held k (G .below) (G .from)
 
-    pub pass-item : y < length w
-    pass-item = P .table .item k (G .below) held
+    pub relocate-item : y < length w
+    relocate-item = P .table .item k (G .below) held
 
     released : Table w o p (with f k)
     released = release-table w o p f (P .table) k (G .below) held
@@ -66,26 +66,26 @@ module _ (w o p : List ℕ) (f set′ h : ℕ) (P : Passable w o p f set′ h) w
     hole : bit (with f k) h ≡ 1
     hole = omega (arith, P .hole, bit-with-le f k h, bit-lt (with f k) h)
 
-    pub passed : Passed w o p f set′ h (set o h y) (set p y h) (without (with f k) h) k
-    passed =
+    pub relocated : Relocated w o p f set′ h (set o h y) (set p y h) (without (with f k) h) k
+    relocated =
         let T = P .table in
         let apart-h : k ≢ h = λ e. omega (arith, held, ap (bit f) e, P .hole) in
-        let free = take-free w o p (with f k) released y h pass-item exposed (P .below) hole (G .may) in
+        let free = take-free w o p (with f k) released y h relocate-item exposed (P .below) hole (G .may) in
         record {
-          table = take-table w o p (with f k) released y h pass-item exposed (P .below) hole (G .may);
+          table = take-table w o p (with f k) released y h relocate-item exposed (P .below) hole (G .may);
           below = G .below;
           from = G .from;
           hole = free k apart-h ∙ bit-with f k;
           kept = λ l g a b. (
             free l b ∙ bit-with-other f k l a,
-            take-own w o p (with f k) released y h pass-item exposed (P .below) hole (G .may) l b,
+            take-own w o p (with f k) released y h relocate-item exposed (P .below) hole (G .may) l b,
           );
           stay = λ x M. same-or x y
-              (λ e. subst (Matched (set o h y) (set p y h) (without (with f k) h)) (sym e) (take-holds w o p (with f k) released y h pass-item exposed (P .below) hole (G .may)))
-              (λ d. take-stay w o p (with f k) released y h pass-item exposed (P .below) hole (G .may) x (release-stay w o p f T k (G .below) held x d M));
+              (λ e. subst (Matched (set o h y) (set p y h) (without (with f k) h)) (sym e) (take-holds w o p (with f k) released y h relocate-item exposed (P .below) hole (G .may)))
+              (λ d. take-stay w o p (with f k) released y h relocate-item exposed (P .below) hole (G .may) x (release-stay w o p f T k (G .below) held x d M));
           new = λ x M. same-or x y
               (λ e. subst (Matched o p f) (sym e) (holder-matched w o p f T k (G .below) held))
-              (λ d. release-new w o p f T k (G .below) held x (take-new w o p (with f k) released y h pass-item exposed (P .below) hole (G .may) x d M));
+              (λ d. release-new w o p f T k (G .below) held x (take-new w o p (with f k) released y h relocate-item exposed (P .below) hole (G .may) x d M));
         }
 
 -- ---- vacate
@@ -106,12 +106,12 @@ module _ (w o p : List ℕ) (f set′ seen : ℕ) (fits : seen < 2 ^ 64) (Z : Va
   reach-lt = span-lt w o set′ vacate-owners
 
   -- a free slot is at hand
-  pub at-hand : (h : ℕ) → bitAnd (span w o set′) f ≢ 0 → h ≡ lowest (bitAnd (span w o set′) f) → Passable w o p f set′ h
+  pub at-hand : (h : ℕ) → bitAnd (span w o set′) f ≢ 0 → h ≡ lowest (bitAnd (span w o set′) f) → Relocatable w o p f set′ h
   at-hand h z e =
       let c = common (span w o set′) f h reach-lt z e in
       record { table = Z .table; held = held-set; below = c .below; hole = c .right; reached = c .left }
 
-  pub vacated-at-hand : (h : ℕ) → Passable w o p f set′ h → (o′ p′ : List ℕ) (f′ k : ℕ) → Passed w o p f set′ h o′ p′ f′ k → Vacated w o p f set′ seen o′ p′ f′ k
+  pub vacated-at-hand : (h : ℕ) → Relocatable w o p f set′ h → (o′ p′ : List ℕ) (f′ k : ℕ) → Relocated w o p f set′ h o′ p′ f′ k → Vacated w o p f set′ seen o′ p′ f′ k
   vacated-at-hand h A o′ p′ f′ k P =
       record {
         table = P .table;
@@ -206,8 +206,8 @@ module _ (w o p : List ℕ) (f set′ seen : ℕ) (fits : seen < 2 ^ 64) (Z : Va
           let r = U .kept l g (omega (arith, bit-or seen layer l, bit-lt layer l)) d in
           (d, r .0, r .1)
 
-      pub next-passable : Passable w o₁ p₁ f₁ set′ j
-      next-passable =
+      pub next-relocatable : Relocatable w o₁ p₁ f₁ set′ j
+      next-relocatable =
           record {
             table = U .table;
             held = λ k h b. kept-seen k h (in-seen k h b) .1;
@@ -217,7 +217,7 @@ module _ (w o p : List ℕ) (f set′ seen : ℕ) (fits : seen < 2 ^ 64) (Z : Va
                 ∙ omega (arith, U .from, in-layer j (U .below), bit-lt (span w o set′) j);
           }
 
-      pub next-vacated : (o₂ p₂ : List ℕ) (f₂ k : ℕ) → Passed w o₁ p₁ f₁ set′ j o₂ p₂ f₂ k → Vacated w o p f set′ seen o₂ p₂ f₂ k
+      pub next-vacated : (o₂ p₂ : List ℕ) (f₂ k : ℕ) → Relocated w o₁ p₁ f₁ set′ j o₂ p₂ f₂ k → Vacated w o p f set′ seen o₂ p₂ f₂ k
       next-vacated o₂ p₂ f₂ k P =
           record {
             table = P .table;

@@ -11,7 +11,7 @@ use Rattle.augment.specs.Table.{own, at, cell, Table, Matched, Exposed, 
 abbrev pub Within : ℕ → ℕ → Type 0
 Within a b = (k : ℕ) → k < 64 → bit a k ≤ bit b k
 
--- ---- mover and pass
+-- ---- mover and relocate
 
 -- slot h is open to the holder of a slot of the set
 pub record Movable (w o : List ℕ) (set h : ℕ) : Type 0 where
@@ -25,7 +25,7 @@ pub record Mover (w o : List ℕ) (set h k : ℕ) : Type 0 where
   pub may : cell w (own o k) h ≡ 1
 
 -- and it is free, while the set's slots are not
-pub record Passable (w o p : List ℕ) (f set h : ℕ) : Type 0 where
+pub record Relocatable (w o p : List ℕ) (f set h : ℕ) : Type 0 where
   pub table : Table w o p f
   pub held : (k : ℕ) → k < 64 → bit set k ≡ 1 → bit f k ≡ 0
   pub below : h < 64
@@ -33,7 +33,7 @@ pub record Passable (w o p : List ℕ) (f set h : ℕ) : Type 0 where
   pub reached : bit (span w o set) h ≡ 1
 
 -- slot k of the set is free now, its holder has gone to h, the other slots are as they were; the same items hold slots
-pub record Passed (w o p : List ℕ) (f set h : ℕ) (o′ p′ : List ℕ) (f′ k : ℕ) : Type 0 where
+pub record Relocated (w o p : List ℕ) (f set h : ℕ) (o′ p′ : List ℕ) (f′ k : ℕ) : Type 0 where
   pub table : Table w o′ p′ f′
   pub below : k < 64
   pub from : bit set k ≡ 1

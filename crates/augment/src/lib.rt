@@ -6,7 +6,7 @@ ghost use mathlib.Core.Logic.{_≢_};
 ghost use Prim.Native.Nat.{_<_};
 ghost use lib.ListN.{length};
 ghost use Rattle.augment.specs.Table.{own, Owners, span};
-ghost use Rattle.augment.specs.Search.{Movable, Mover, Passable, Passed, Vacatable, Vacated, Closed, Assignable, Assigned, Barred, Same};
+ghost use Rattle.augment.specs.Search.{Movable, Mover, Relocatable, Relocated, Vacatable, Vacated, Closed, Assignable, Assigned, Barred, Same};
 
 // A slot that was found, below 64, and the word of free slots afterwards; or 64, and the closed set that rules every slot out.
 pub struct Found {
@@ -55,7 +55,7 @@ pub fn mover(opens: &[u64], owner: &[u8; 64], set: u64, h: usize) -> usize
 }
 
 // The holder of a slot of `set` goes to the free slot h.
-pub fn pass(
+pub fn relocate(
     opens: &[u64],
     owner: &mut [u8; 64],
     slot: &mut [u8; 64],
@@ -63,8 +63,8 @@ pub fn pass(
     set: u64,
     h: usize,
 ) -> Found
-    requires { ⌜ Passable (now opens) (now owner) (now slot) free set h ⌝ }
-    ensures { λ r. ⌜ Passed (now (opens .entry)) (now (owner .entry)) (now (slot .entry)) free set h (now (owner .exit)) (now (slot .exit)) (r .word) (r .at) ⌝ }
+    requires { ⌜ Relocatable (now opens) (now owner) (now slot) free set h ⌝ }
+    ensures { λ r. ⌜ Relocated (now (opens .entry)) (now (owner .entry)) (now (slot .entry)) free set h (now (owner .exit)) (now (slot .exit)) (r .word) (r .at) ⌝ }
 {
     let k = mover(opens, owner, set, h);
     let y = holder(owner, k);
@@ -93,7 +93,7 @@ pub fn vacate(
     let reach = span(opens, owner, set);
     let hit = reach & free;
     if hit != 0 {
-        return pass(opens, owner, slot, free, set, words::lowest(hit));
+        return relocate(opens, owner, slot, free, set, words::lowest(hit));
     }
     let layer = words::minus(reach, seen);
     if layer == 0 {
@@ -105,7 +105,7 @@ pub fn vacate(
     if r.at == 64 {
         return r;
     }
-    pass(opens, owner, slot, r.word, set, r.at)
+    relocate(opens, owner, slot, r.word, set, r.at)
 }
 
 // Item x, which holds no slot, gets one of `cand` if that is possible with the slots of `keep` left to their holders.

@@ -8,12 +8,12 @@ use native.Mathlib.Omega.{arith}
 use borrow.Author.Needs.{needs}
 use borrow.Fn.Kinds.{In}
 use borrow.Fn.PlainCycle.{Measures, is, falls, and}
-use Rattle.augment.specs.Search.{Passable}
-use Rattle.augment.proofs.Searches.{vacate-owners, at-hand, vacated-at-hand, nothing-new, next-vacatable, next-more, next-closed, next-passable, next-vacated}
+use Rattle.augment.specs.Search.{Relocatable}
+use Rattle.augment.proofs.Searches.{vacate-owners, at-hand, vacated-at-hand, nothing-new, next-vacatable, next-more, next-closed, next-relocatable, next-vacated}
 use Rattle.augment.proofs.vacate.Reads as vacate
 use Rattle.augment.proofs.vacate.Kinds as vacate-kinds
 use Rattle.augment.proofs.+vacate.Lts-vacate as vacate-lts
-use Rattle.augment.proofs.pass.Reads as pass-reads
+use Rattle.augment.proofs.relocate.Reads as relocate-reads
 use Rattle.augment.proofs.span.Reads as span-reads
 use Rattle.words.proofs.lowest.Reads as lowest-reads
 use Rattle.words.proofs.minus.Reads as minus-reads
@@ -36,8 +36,8 @@ claims t = (
   span-reads.Learnt,
   lowest-reads.Asked,
   lowest-reads.Learnt,
-  pass-reads.Asked,
-  pass-reads.Learnt,
+  relocate-reads.Asked,
+  relocate-reads.Learnt,
   minus-reads.Asked,
   minus-reads.Learnt,
   vacate-below t,
@@ -55,25 +55,25 @@ module _ (t : ℕ) where
   start7 c = c .before .before .before .before .before .before .before
 
   -- a free slot is at hand
-  hand : (c : After-lowest) → let a = start7 c .args in Passable (a .opens .now) (a .owner .now) (a .slot .now) (a .free) (a .set) (c .lowest .result)
+  hand : (c : After-lowest) → let a = start7 c .args in Relocatable (a .opens .now) (a .owner .now) (a .slot .now) (a .free) (a .set) (c .lowest .result)
   hand c =
       let p = c .before .before .before .before .span .ensures in
       at-hand _ _ _ _ _ _ (start7 c .fits .seen .fits) (start7 c .pre .1) _ (rw p at (c .before .before .before .if1 .taken)) (rw p at (c .lowest .ensures))
 
-  abbrev After-pass-arg4 : Type 0
-  After-pass-arg4 = vacate-lts.After-pass-arg4 (claims t) (vacate-at t) vacate.Post
+  abbrev After-relocate-arg4 : Type 0
+  After-relocate-arg4 = vacate-lts.After-relocate-arg4 (claims t) (vacate-at t) vacate.Post
 
-  abbrev start13 : After-pass-arg4 → Start
+  abbrev start13 : After-relocate-arg4 → Start
   start13 c = c .before .before .before .before .before .before .before .before .before .before .before .before .before .before
 
   -- a slot of the layer was made free
-  onward : (c : After-pass-arg4) → let v = c .before .before .before .before .vacate in let a = start13 c .args in
-      Passable (a .opens .now) (v .last .1 .0) (v .last .1 .1 .0) (v .result .word) (a .set) (v .result .at)
+  onward : (c : After-relocate-arg4) → let v = c .before .before .before .before .vacate in let a = start13 c .args in
+      Relocatable (a .opens .now) (v .last .1 .0) (v .last .1 .1 .0) (v .result .word) (a .set) (v .result .at)
   onward c =
       let s = start13 c in
       let p = c .before .before .before .before .before .before .before .before .before .before .before .span .ensures in
       let l = c .before .before .before .before .before .before .before .before .before .minus .ensures in
-      next-passable _ _ _ _ _ _ (s .fits .seen .fits) (s .pre .1) (rw p at (c .before .before .before .before .before .before .before .before .before .before .if1 .left)) _ _ _ _
+      next-relocatable _ _ _ _ _ _ (s .fits .seen .fits) (s .pre .1) (rw p at (c .before .before .before .before .before .before .before .before .before .before .if1 .left)) _ _ _ _
       (rw (l, p, take-length (s .args .opens .now)) at (c .before .before .before .before .vacate .ensures .0 (c .before .before .if3 .left)))
 
   span-requires : vacate-lts.Need-span-requires (claims t) (vacate-at t) vacate.Post
@@ -82,13 +82,13 @@ module _ (t : ℕ) where
   lowest-requires : vacate-lts.Need-lowest-requires (claims t) (vacate-at t) vacate.Post
   lowest-requires c κs = search needs
 
-  pass-requires : vacate-lts.Need-pass-requires (claims t) (vacate-at t) vacate.Post
-  pass-requires c κs = hand c
+  relocate-requires : vacate-lts.Need-relocate-requires (claims t) (vacate-at t) vacate.Post
+  relocate-requires c κs = hand c
 
   returns : vacate-lts.Need-returns (claims t) (vacate-at t) vacate.Post
   returns c = (
-    λ n. vacated-at-hand _ _ _ _ _ _ (start7 (c .before) .fits .seen .fits) (start7 (c .before) .pre .1) _ (hand (c .before)) _ _ _ _ (c .pass .ensures),
-    λ e. absurd (omega (arith, c .pass .ensures .below)),
+    λ n. vacated-at-hand _ _ _ _ _ _ (start7 (c .before) .fits .seen .fits) (start7 (c .before) .pre .1) _ (hand (c .before)) _ _ _ _ (c .relocate .ensures),
+    λ e. absurd (omega (arith, c .relocate .ensures .below)),
   )
 
   minus-requires : vacate-lts.Need-minus-requires (claims t) (vacate-at t) vacate.Post
@@ -129,8 +129,8 @@ module _ (t : ℕ) where
             (r .0, next-closed _ _ _ _ _ _ (s .fits .seen .fits) (s .pre .1) none _ (rw (l, p, take-length (s .args .opens .now)) at (r .1))),
       )
 
-  pass-requires-2 : vacate-lts.Need-pass-requires-2 (claims t) (vacate-at t) vacate.Post
-  pass-requires-2 c κs = onward c
+  relocate-requires-2 : vacate-lts.Need-relocate-requires-2 (claims t) (vacate-at t) vacate.Post
+  relocate-requires-2 c κs = onward c
 
   returns-4 : vacate-lts.Need-returns-4 (claims t) (vacate-at t) vacate.Post
   returns-4 c = (
@@ -140,20 +140,20 @@ module _ (t : ℕ) where
         let p = d .before .before .before .before .before .before .before .before .before .before .before .span .ensures in
         let l = d .before .before .before .before .before .before .before .before .before .minus .ensures in
         next-vacated _ _ _ _ _ _ (s .fits .seen .fits) (s .pre .1) (rw p at (d .before .before .before .before .before .before .before .before .before .before .if1 .left)) _ _ _ _
-        (rw (l, p, take-length (s .args .opens .now)) at (d .before .before .before .before .vacate .ensures .0 (d .before .before .if3 .left))) _ _ _ _ (c .pass2 .ensures),
-    λ e. absurd (omega (arith, c .pass2 .ensures .below)),
+        (rw (l, p, take-length (s .args .opens .now)) at (d .before .before .before .before .vacate .ensures .0 (d .before .before .if3 .left))) _ _ _ _ (c .relocate2 .ensures),
+    λ e. absurd (omega (arith, c .relocate2 .ensures .below)),
   )
 
 pub +vacate-spec : {M : Type 1} → statement M
 +vacate-spec = close μ-vacate λ t. vacate-lts.spec (claims t) (vacate-at t) vacate.Post
     (span-requires t)
     (lowest-requires t)
-    (pass-requires t)
+    (relocate-requires t)
     (returns t)
     (minus-requires t)
     (returns-2 t)
     (slice-aggregate-vacate t)
     (vacate-requires t)
     (returns-3 t)
-    (pass-requires-2 t)
+    (relocate-requires-2 t)
     (returns-4 t)

@@ -1,20 +1,20 @@
--- `augment::pass` meets its contract: the slot is released, and its holder takes the hole. Assumes nothing.
+-- `augment::relocate` meets its contract: the slot is released, and its holder takes the hole. Assumes nothing.
 use Prim.Native.Nat.{_<_}
 use native.Mathlib.Omega.{arith}
 use borrow.Author.Needs.{needs}
 use lib.ListN.{length}
-use Rattle.augment.proofs.Searches.{pass-movable, pass-item, passed}
-use Rattle.augment.proofs.pass.Statement.{statement}
-use Rattle.augment.proofs.pass.Tie as tie
+use Rattle.augment.proofs.Searches.{relocate-movable, relocate-item, relocated}
+use Rattle.augment.proofs.relocate.Statement.{statement}
+use Rattle.augment.proofs.relocate.Tie as tie
 
 mover-requires : tie.Need-mover-requires
-mover-requires c κs = pass-movable _ _ _ _ _ _ (c .before .before .pre)
+mover-requires c κs = relocate-movable _ _ _ _ _ _ (c .before .before .pre)
 
 holder-requires : tie.Need-holder-requires
 holder-requires c κs = search needs
 
 item : (c : tie.After-holder) → c .holder .result < length (c .before .before .before .before .before .args .opens .now)
-item c = rw (c .holder .ensures) (pass-item _ _ _ _ _ _ (c .before .before .before .before .before .pre) _ (c .before .before .mover .ensures))
+item c = rw (c .holder .ensures) (relocate-item _ _ _ _ _ _ (c .before .before .before .before .before .pre) _ (c .before .before .mover .ensures))
 
 cast-owner : tie.Need-cast-owner
 cast-owner c = omega (arith, item c)
@@ -37,10 +37,10 @@ without-requires c κs = search needs
 returns : tie.Need-returns
 returns c =
     rw (c .without .ensures, c .before .with .ensures, c .before .before .holder .ensures)
-    (passed _ _ _ _ _ _ (c .before .before .before .before .before .before .before .pre) _ (c .before .before .before .before .mover .ensures))
+    (relocated _ _ _ _ _ _ (c .before .before .before .before .before .before .before .pre) _ (c .before .before .before .before .mover .ensures))
 
-pub pass-spec : {M : Type 1} → statement M
-pass-spec =
+pub relocate-spec : {M : Type 1} → statement M
+relocate-spec =
     tie.close
     (tie.spec
     mover-requires
