@@ -11,9 +11,9 @@ use lib.Count.{ones}
 use lib.ListN.{set}
 use Rattle.words.specs.Word.{with, without, minus, lowest}
 use Rattle.augment.specs.Table.{own, span}
-use Rattle.augment.specs.Search.{Relocatable, Relocated, Vacatable, Vacated, Closed, Assignable, Assigned, Barred}
+use Rattle.augment.specs.Search.{Relocatable, Relocated, Vacatable, Vacated, Certificate, Assignable, Assigned, Barred}
 use Rattle.augment.proofs.Spans.{span-from}
-use Rattle.augment.proofs.Searches.{relocated, at-hand, vacated-at-hand, nothing-new, next-vacatable, next-more, next-lt, next-closed, next-relocatable, next-vacated, at-once, assign-vacatable, assign-barred, assign-found}
+use Rattle.augment.proofs.Searches.{relocated, at-hand, vacated-at-hand, nothing-new, next-vacatable, next-more, next-lt, next-certificate, next-relocatable, next-vacated, at-once, assign-vacatable, assign-barred, assign-found}
 
 -- tables afterwards
 pub record After (P : List ℕ → List ℕ → ℕ → ℕ → Type 0) : Type 0 where
@@ -35,7 +35,7 @@ relocate w o p f set′ h P =
     }
 
 abbrev Outcome : List ℕ → List ℕ → List ℕ → ℕ → ℕ → ℕ → Type 0
-Outcome w o p f set′ seen = After (Vacated w o p f set′ seen) ⊎ ((t : ℕ) × Closed w o f set′ seen t)
+Outcome w o p f set′ seen = After (Vacated w o p f set′ seen) ⊎ ((t : ℕ) × Certificate w o f set′ seen t)
 
 module _ (w o p : List ℕ) (f set′ seen : ℕ) (fits : seen < 2 ^ 64) (Z : Vacatable w o p f set′ seen) where
   abbrev layer : ℕ
@@ -55,7 +55,7 @@ module _ (w o p : List ℕ) (f set′ seen : ℕ) (fits : seen < 2 ^ 64) (Z : Va
             at = q .at;
             holds = next-vacated w o p f set′ seen fits Z none _ _ _ _ (r .holds) _ _ _ _ (q .holds);
           })
-      onward none (inr r) = inr (r .0, next-closed w o p f set′ seen fits Z none (r .0) (r .1))
+      onward none (inr r) = inr (r .0, next-certificate w o p f set′ seen fits Z none (r .0) (r .1))
 
       go : Dec (bitAnd (span w o set′) f ≡ 0) → Dec (layer ≡ 0) → Outcome w o p f set′ seen
       go (no z) d =

@@ -11,7 +11,7 @@ use Rattle.words.specs.Word.{bit, with, without, minus, lowest}
 use Rattle.words.proofs.Bits.{bit-lt, bit-empty, bit-and, bit-or, bit-minus, bit-with, bit-with-other}
 use Rattle.words.proofs.Sets.{bit-with-le, minus-le, ones-proper, lowest-lt, bit-lowest}
 use Rattle.augment.specs.Table.{own, cell, Table, Matched, Exposed, Owners, span}
-use Rattle.augment.specs.Search.{Movable, Mover, Relocatable, Relocated, Vacatable, Vacated, Closed, Assignable, Assigned, Barred}
+use Rattle.augment.specs.Search.{Movable, Mover, Relocatable, Relocated, Vacatable, Vacated, Certificate, Assignable, Assigned, Barred}
 use Rattle.augment.proofs.Spans.{span-into, span-from, span-lt, span-same}
 use Rattle.augment.proofs.Moves.{same-or, holder-matched, release-table, release-exposed, release-stay, release-new, take-table, take-own, take-free, take-slot, take-holds, take-stay, take-new}
 
@@ -133,7 +133,7 @@ module _ (w o p : List ℕ) (f set′ seen : ℕ) (fits : seen < 2 ^ 64) (Z : Va
     in-layer k h = bit-minus (span w o set′) seen k fits h
 
     -- the span is nothing new: `seen` is closed
-    pub nothing-new : layer ≡ 0 → Closed w o f set′ seen seen
+    pub nothing-new : layer ≡ 0 → Certificate w o f set′ seen seen
     nothing-new e =
         record {
           more = λ k h. omega arith;
@@ -177,8 +177,8 @@ module _ (w o p : List ℕ) (f set′ seen : ℕ) (fits : seen < 2 ^ 64) (Z : Va
           ones-le 64 seen′ next-lt,
         )
 
-    pub next-closed : (t : ℕ) → Closed w o f layer seen′ t → Closed w o f set′ seen t
-    next-closed t C =
+    pub next-certificate : (t : ℕ) → Certificate w o f layer seen′ t → Certificate w o f set′ seen t
+    next-certificate t C =
         record {
           more = λ k h. omega (arith, C .more k h, bit-or seen layer k);
           held = C .held;
@@ -277,7 +277,7 @@ module _ (w o p : List ℕ) (f x cand keep : ℕ) (A : Assignable w o p f x cand
             (λ d. apart cand f k none (omega (arith, bit-or keep cand k, bit-lt keep k)));
       }
 
-  pub assign-barred : (t : ℕ) → Closed w o f cand (bitOr keep cand) t → Barred w o f cand keep t
+  pub assign-barred : (t : ℕ) → Certificate w o f cand (bitOr keep cand) t → Barred w o f cand keep t
   assign-barred t C =
       record {
         kept = λ k h. omega (arith, C .more k h, bit-or keep cand k);

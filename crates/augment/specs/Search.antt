@@ -61,7 +61,7 @@ pub record Vacated (w o p : List ℕ) (f set seen : ℕ) (o′ p′ : List ℕ) 
 
 -- None can be made free. t holds `seen`, all its slots are held, and the holders of its slots in the set or outside `seen` may
 -- use no slot outside t. It is the least such set.
-pub record Closed (w o : List ℕ) (f set seen t : ℕ) : Type 0 where
+pub record Certificate (w o : List ℕ) (f set seen t : ℕ) : Type 0 where
   pub more : Within seen t
   pub held : (k : ℕ) → k < 64 → bit t k ≡ 1 → bit f k ≡ 0
   pub shut : (k : ℕ) → k < 64 → bit t k ≡ 1 → bit seen k ≤ bit set k → Within (getD w (own o k) 0) t

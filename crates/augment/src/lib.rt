@@ -6,7 +6,7 @@ ghost use mathlib.Core.Logic.{_≢_};
 ghost use Prim.Native.Nat.{_<_};
 ghost use lib.ListN.{length};
 ghost use Rattle.augment.specs.Table.{own, Owners, span};
-ghost use Rattle.augment.specs.Search.{Movable, Mover, Relocatable, Relocated, Vacatable, Vacated, Closed, Assignable, Assigned, Barred, Same};
+ghost use Rattle.augment.specs.Search.{Movable, Mover, Relocatable, Relocated, Vacatable, Vacated, Certificate, Assignable, Assigned, Barred, Same};
 
 // A slot that was found, below 64, and the word of free slots afterwards; or 64, and the closed set that rules every slot out.
 pub struct Found {
@@ -88,7 +88,7 @@ pub fn vacate(
 ) -> Found
     requires { ⌜ Vacatable (now opens) (now owner) (now slot) free set seen ⌝ }
     ensures found { λ r. ⌜ (r .at ≢ 64 → Vacated (now (opens .entry)) (now (owner .entry)) (now (slot .entry)) free set seen (now (owner .exit)) (now (slot .exit)) (r .word) (r .at)) ⌝ }
-    ensures none { λ r. ⌜ (r .at ≡ 64 → Same (now (owner .entry)) (now (slot .entry)) (now (owner .exit)) (now (slot .exit)) × Closed (now (opens .entry)) (now (owner .entry)) free set seen (r .word)) ⌝ }
+    ensures none { λ r. ⌜ (r .at ≡ 64 → Same (now (owner .entry)) (now (slot .entry)) (now (owner .exit)) (now (slot .exit)) × Certificate (now (opens .entry)) (now (owner .entry)) free set seen (r .word)) ⌝ }
 {
     let reach = span(opens, owner, set);
     let hit = reach & free;

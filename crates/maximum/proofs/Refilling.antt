@@ -12,7 +12,7 @@ use Rattle.words.proofs.Bits.{bit-lt, bit-empty, bit-one-lt, bit-and, bit-or, b
 use Rattle.words.proofs.Walk.{Walk, Turn, walk, turn}
 use Rattle.model.specs.Deficiency.{neighbours}
 use Rattle.model.proofs.Deficiency.{neighbours-into, neighbours-from, neighbours-lt}
-use Rattle.augment.specs.Search.{Within, Vacatable, Vacated, Closed}
+use Rattle.augment.specs.Search.{Within, Vacatable, Vacated, Certificate}
 use Rattle.augment.proofs.Moves.{same-or}
 use Rattle.maximum.specs.Maximum.{Fillable, Filled, Refillable}
 
@@ -76,8 +76,8 @@ module _ {w o p : List ℕ} {f e d : ℕ} (R : Refillable w o p f e d) {near : �
       }
 
   -- none can be served
-  pub refill-closed : {t : ℕ} → t < 2 ^ 64 → Closed w o f set set t → Filled w o p f e t
-  refill-closed {t} ht C =
+  pub refill-certificate : {t : ℕ} → t < 2 ^ 64 → Certificate w o f set set t → Filled w o p f e t
+  refill-certificate {t} ht C =
       record {
         table = R .fillable .table;
         items = R .fillable .items;

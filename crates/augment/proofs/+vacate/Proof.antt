@@ -9,7 +9,7 @@ use borrow.Author.Needs.{needs}
 use borrow.Fn.Kinds.{In}
 use borrow.Fn.PlainCycle.{Measures, is, falls, and}
 use Rattle.augment.specs.Search.{Relocatable}
-use Rattle.augment.proofs.Searches.{vacate-owners, at-hand, vacated-at-hand, nothing-new, next-vacatable, next-more, next-closed, next-relocatable, next-vacated}
+use Rattle.augment.proofs.Searches.{vacate-owners, at-hand, vacated-at-hand, nothing-new, next-vacatable, next-more, next-certificate, next-relocatable, next-vacated}
 use Rattle.augment.proofs.vacate.Reads as vacate
 use Rattle.augment.proofs.vacate.Kinds as vacate-kinds
 use Rattle.augment.proofs.+vacate.Lts-vacate as vacate-lts
@@ -126,7 +126,7 @@ module _ (t : ℕ) where
         λ n. absurd (n (c .if3 .taken)),
         λ e.
             let r = c .before .before .vacate .ensures .1 e in
-            (r .0, next-closed _ _ _ _ _ _ (s .fits .seen .fits) (s .pre .1) none _ (rw (l, p, take-length (s .args .opens .now)) at (r .1))),
+            (r .0, next-certificate _ _ _ _ _ _ (s .fits .seen .fits) (s .pre .1) none _ (rw (l, p, take-length (s .args .opens .now)) at (r .1))),
       )
 
   relocate-requires-2 : vacate-lts.Need-relocate-requires-2 (claims t) (vacate-at t) vacate.Post

@@ -1,6 +1,6 @@
 -- `maximum::refill` meets its contract: a free slot is at hand, or none can be made free, or one is. Assumes nothing.
 use borrow.Author.Needs.{needs}
-use Rattle.maximum.proofs.Refilling.{refill-vacatable, refill-closed, refill-vacated}
+use Rattle.maximum.proofs.Refilling.{refill-vacatable, refill-certificate, refill-vacated}
 use Rattle.maximum.proofs.refill.Statement.{statement}
 use Rattle.maximum.proofs.refill.Tie as tie
 
@@ -20,7 +20,7 @@ returns-2 : tie.Need-returns-2
 returns-2 c =
     let r = c .before .before .vacate .ensures .1 (c .if2 .taken) in
     let n = c .before .before .before .before .before .before in
-    rw (r .0 .owner, r .0 .slot) (refill-closed (n .before .before .pre) (n .neighbours .ensures) (search needs) (r .1))
+    rw (r .0 .owner, r .0 .slot) (refill-certificate (n .before .before .pre) (n .neighbours .ensures) (search needs) (r .1))
 
 fill-requires-2 : tie.Need-fill-requires-2
 fill-requires-2 c κs =
