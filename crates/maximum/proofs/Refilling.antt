@@ -89,7 +89,7 @@ module _ {w o p : List ℕ} {f e d : ℕ} (R : Refillable w o p f e d) {near : �
           shut = λ k h b. C .shut k h b (omega arith);
           all = λ x h b k g. omega (arith, neighbours-into w e x k h b, set-bit k, C .more k g);
           least = λ g ours far.
-              let dead = R .led g ours (λ k h b q. far k h b (omega (arith, set-bit k, C .more k h, bit-lt t k))) in
+              let dead = R .reachable g ours (λ k h b q. far k h b (omega (arith, set-bit k, C .more k h, bit-lt t k))) in
               C .least g
               (λ k h. same-or (bit (neighbours w e) k) 1
               (λ b. let r = neighbours-from w e k b in omega (arith, ours (r .0) (r .1) (r .2) k h, r .3, bit-lt set k))

@@ -71,8 +71,8 @@ pub fn neighbours(opens: &[u64], items: u64) -> u64
     all
 }
 
-// `fill` for the items that stayed exposed, once the open words have changed but the slots of `dead` are still led to. What is
-// led to now is found from all of them at once, so a search that fails again does not walk them one by one.
+// `fill` for the items that stayed exposed, once the open words have changed but the slots of `dead` are still reachable. What is
+// reachable now is found from all of them at once, so a search that fails again does not walk them one by one.
 pub fn refill(
     opens: &[u64],
     owner: &mut [u8; 64],

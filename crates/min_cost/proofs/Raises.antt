@@ -122,7 +122,7 @@ module _ {w c : List ℕ} (S : Square w c) {u v : ℕ → ℕ} {r : ℕ} {t : Li
         record {
           fillable = fillable;
           held = F .dead .held;
-          led = λ g near far. F .dead .least g
+          reachable = λ g near far. F .dead .least g
               (λ x h b. still x g h (omega (arith, bit-or e (holders o d) x, bit-lt (holders o d) x)) (near x (omega (arith, same)) b))
               (λ k h b c.
               let z = F .dead .held k h c in
