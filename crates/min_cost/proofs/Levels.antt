@@ -1,4 +1,4 @@
--- The loops of `lift` and `reprice`, and what they make of the levels, bit by bit. Assumes nothing.
+-- The loops of `lift` and `raise`, and what they make of the levels, bit by bit. Assumes nothing.
 use mathlib.Core.Path.{_≡_, refl, sym, ap, ap₂, _∙_}
 use mathlib.Core.List.{List, _∷_}
 use Prim.Native.Nat.{ℕ, zero, suc, _+_, _^_, _≤_, _<_, min}
@@ -9,7 +9,7 @@ use lib.ListN.{length, getD, set}
 use Rattle.words.specs.Word.{bit, select}
 use Rattle.words.proofs.Bits.{bit-empty, bit-and, bit-select}
 use Rattle.words.proofs.Sweep.{Sweep, sweep-start, sweep-turn}
-use Rattle.min_cost.specs.Dual.{delta, Levels, Lifted, tightWord, Repriceable, Repriced}
+use Rattle.min_cost.specs.Dual.{delta, Levels, Lifted, tightWord, Raisable, Raised}
 
 -- ---- lift: `under` is the level below x
 
@@ -46,41 +46,41 @@ lifting-end {l} {d} hd L hx v N =
     lowered zero k h g = omega (arith, bit-empty k)
     lowered (suc x) k h g = omega (arith, N .word x k (omega arith) g)
 
--- ---- reprice
+-- ---- raise
 
-pub record Repricing (w c l u : List ℕ) (up : ℕ) (t₀ u′ t′ : List ℕ) (i : ℕ) : Type 0 where
-  pub prices : Sweep 64 (λ x. getD u x 0) (λ x. getD u x 0 + bit up x) u′ i
+pub record Raising (w c l u : List ℕ) (up : ℕ) (t₀ u′ t′ : List ℕ) (i : ℕ) : Type 0 where
+  pub item-duals : Sweep 64 (λ x. getD u x 0) (λ x. getD u x 0 + bit up x) u′ i
   pub words : Sweep (length w) (λ x. getD t₀ x 0) (λ x. tightWord l (getD w x 0) (getD c x 0) (getD u x 0 + bit up x)) t′ i
 
-module _ {w c l u : List ℕ} {up : ℕ} {t : List ℕ} (R : Repriceable w c l u t up) where
-  pub repricing-start : Repricing w c l u up t u t 0
-  repricing-start = record { prices = sweep-start 64 u (R .prices); words = sweep-start (length w) t (R .words) }
+module _ {w c l u : List ℕ} {up : ℕ} {t : List ℕ} (R : Raisable w c l u t up) where
+  pub raising-start : Raising w c l u up t u t 0
+  raising-start = record { item-duals = sweep-start 64 u (R .item-duals); words = sweep-start (length w) t (R .words) }
 
-  module _ {u′ t′ : List ℕ} {i : ℕ} (S : Repricing w c l u up t u′ t′ i) where
-    -- the item's new price
-    price-is : (b : ℕ) → b ≡ bit up i → getD u′ i 0 + b ≡ getD u i 0 + bit up i
-    price-is b e = ap₂ _+_ (S .prices .rest i (omega arith)) e
+  module _ {u′ t′ : List ℕ} {i : ℕ} (S : Raising w c l u up t u′ t′ i) where
+    -- the item's new dual
+    dual-is : (b : ℕ) → b ≡ bit up i → getD u′ i 0 + b ≡ getD u i 0 + bit up i
+    dual-is b e = ap₂ _+_ (S .item-duals .rest i (omega arith)) e
 
-    pub price-room : i < length w → (b : ℕ) → b ≡ bit up i → getD u′ i 0 + b ≤ 64
-    price-room h b e = omega (arith, price-is b e, R .room i h)
+    pub dual-room : i < length w → (b : ℕ) → b ≡ bit up i → getD u′ i 0 + b ≤ 64
+    dual-room h b e = omega (arith, dual-is b e, R .room i h)
 
-    pub repricing-turn : i < length w → (b s : ℕ) → b ≡ bit up i
+    pub raising-turn : i < length w → (b s : ℕ) → b ≡ bit up i
         → s ≡ select (getD l (getD u′ i 0 + b + 1) 0) (getD c i 0) (getD l (getD u′ i 0 + b) 0)
-        → Repricing w c l u up t (set u′ i (getD u′ i 0 + b)) (set t′ i (bitAnd (getD w i 0) s)) (i + 1)
+        → Raising w c l u up t (set u′ i (getD u′ i 0 + b)) (set t′ i (bitAnd (getD w i 0) s)) (i + 1)
     unfolding tightWord
-    repricing-turn h b s eb es =
+    raising-turn h b s eb es =
         record {
-          prices = sweep-turn (S .prices) (omega (arith, R .few)) (price-is b eb);
-          words = sweep-turn (S .words) h (ap (bitAnd (getD w i 0)) es ∙ ap (tightWord l (getD w i 0) (getD c i 0)) (price-is b eb));
+          item-duals = sweep-turn (S .item-duals) (omega (arith, R .few)) (dual-is b eb);
+          words = sweep-turn (S .words) h (ap (bitAnd (getD w i 0)) es ∙ ap (tightWord l (getD w i 0) (getD c i 0)) (dual-is b eb));
         }
 
-    pub repricing-end : length w ≤ i → ((x : ℕ) → x < length w → getD c x 0 < 2 ^ 64) → Repriced w c l u up u′ t′
-    repricing-end h range =
+    pub raising-end : length w ≤ i → ((x : ℕ) → x < length w → getD c x 0 < 2 ^ 64) → Raised w c l u up u′ t′
+    raising-end h range =
         record {
           range = range;
-          prices = S .prices .sized;
+          item-duals = S .item-duals .sized;
           words = S .words .sized;
-          price = λ x g. S .prices .done x (omega arith);
+          item-dual = λ x g. S .item-duals .done x (omega arith);
           word = λ x g. S .words .done x (omega arith);
         }
 

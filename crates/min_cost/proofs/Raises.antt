@@ -21,7 +21,7 @@ use Rattle.augment.specs.Search.{Within}
 use Rattle.augment.proofs.Moves.{same-or}
 use Rattle.maximum.specs.Maximum.{Fillable, Filled, Refillable, holders}
 use Rattle.maximum.proofs.Deficient.{deficient-lt, deficient-ones, deficient-shut, deficient-holder}
-use Rattle.min_cost.specs.Dual.{Square, Levels, Lifted, tightWord, Repriceable, Repriced}
+use Rattle.min_cost.specs.Dual.{Square, Levels, Lifted, tightWord, Raisable, Raised}
 use Rattle.min_cost.proofs.Levels.{tight-bit}
 use Rattle.min_cost.proofs.Duals.{Duals, Tight, open-range, tight-open, open-tight, slot-below, bound}
 
@@ -70,8 +70,8 @@ module _ {w c : List ℕ} (S : Square w c) {u v : ℕ → ℕ} {r : ℕ} {t : Li
   pub exposed-some : e ≢ 0 → ones e ≢ 0
   exposed-some some z = some (ones-none (length t) e (F .items) z)
 
-  pub raised : e ≢ 0 → {s : ℕ} → s ≡ ones e → Duals w c u₁ v₁ (r + s)
-  raised some es =
+  pub raised-duals : e ≢ 0 → {s : ℕ} → s ≡ ones e → Duals w c u₁ v₁ (r + s)
+  raised-duals some es =
       record {
         fair = raised-fair;
         cap = λ i h. let z = exposed-some some in omega (arith, D .cap i h, bit-lt up i);
@@ -131,12 +131,12 @@ module _ {w c : List ℕ} (S : Square w c) {u v : ℕ → ℕ} {r : ℕ} {t : Li
 
 -- ---- the loop
 
--- duals, the levels l of the slots, and the prices y of the items, of which those of up are yet to grow
+-- duals, the levels l of the slots, and the array y of the items' duals, of which those of up are yet to grow
 pub record Ready (w c l y : List ℕ) (up : ℕ) (u v : ℕ → ℕ) (r : ℕ) : Type 0 where
   pub duals : Duals w c u v r
   pub levels : Levels l v
-  pub prices : length y ≡ 64
-  pub price : (i : ℕ) → i < length w → getD y i 0 + bit up i ≡ u i
+  pub item-duals : length y ≡ 64
+  pub item-dual : (i : ℕ) → i < length w → getD y i 0 + bit up i ≡ u i
   pub small : (i : ℕ) → i < length w → u i ≤ 64
 
 -- and a maximum matching of the tight cells
@@ -149,18 +149,18 @@ pub record Rounds (w c t y l o p : List ℕ) (f e d r : ℕ) : Type 0 where
 
 module _ {w c : List ℕ} (S : Square w c) where
   module _ {l y : List ℕ} {up : ℕ} {u v : ℕ → ℕ} {r : ℕ} (A : Ready w c l y up u v r) where
-    pub ready-repriceable : {t : List ℕ} → length t ≡ length w → Repriceable w c l y t up
-    ready-repriceable e =
+    pub ready-raisable : {t : List ℕ} → length t ≡ length w → Raisable w c l y t up
+    ready-raisable e =
         record {
           few = S .few;
           same = S .same;
           levels = A .levels .sized;
-          prices = A .prices;
+          item-duals = A .item-duals;
           words = e;
-          room = λ i h. omega (arith, A .price i h, A .small i h);
+          room = λ i h. omega (arith, A .item-dual i h, A .small i h);
         }
 
-    module _ {y′ t : List ℕ} (R : Repriced w c l y up y′ t) where
+    module _ {y′ t : List ℕ} (R : Raised w c l y up y′ t) where
       pub ready-tight : Tight w c u v t
       unfolding tightWord
       ready-tight =
@@ -168,7 +168,7 @@ module _ {w c : List ℕ} (S : Square w c) where
             sized = R .words;
             range = λ i h. let g : i < length w = omega (arith, R .words) in rw (R .word i g) (lt-of-le-of-lt (and-le-l (getD w i 0) _) (open-range S i g));
             word = λ i k h g.
-                ap (λ z. bit z k) (R .word i h ∙ ap (tightWord l (getD w i 0) (getD c i 0)) (A .price i h))
+                ap (λ z. bit z k) (R .word i h ∙ ap (tightWord l (getD w i 0) (getD c i 0)) (A .item-dual i h))
                 ∙ tight-bit (A .levels) (getD w i 0) (getD c i 0) (u i) k (R .range i h) g (A .small i h);
           }
 
@@ -180,8 +180,8 @@ module _ {w c : List ℕ} (S : Square w c) where
             ready = record {
               duals = A .duals;
               levels = A .levels;
-              prices = R .prices;
-              price = λ i h. omega (arith, R .price i h, A .price i h, bit-empty i);
+              item-duals = R .item-duals;
+              item-dual = λ i h. omega (arith, R .item-dual i h, A .item-dual i h, bit-empty i);
               small = A .small;
             };
             tight = ready-tight;
@@ -200,8 +200,8 @@ module _ {w c : List ℕ} (S : Square w c) where
               (λ m.
               omega (arith, ap (λ z. bit z k) (getD-set-other (replicate 66 0) 1 x all 0 m ∙ getD-replicate 66 x 0 0 h), bit-empty k));
         };
-        prices = refl;
-        price = λ i h. omega (arith, getD-replicate {A = ℕ} 64 i 0 0 (omega (arith, S .few)), bit-empty i);
+        item-duals = refl;
+        item-dual = λ i h. omega (arith, getD-replicate {A = ℕ} 64 i 0 0 (omega (arith, S .few)), bit-empty i);
         small = λ i h. omega arith;
       }
 
@@ -209,7 +209,7 @@ module _ {w c : List ℕ} (S : Square w c) where
   module _ (plan : (q : List ℕ) × IsPlan w q) {t y l o p : List ℕ} {f e d r : ℕ} (K : Rounds w c t y l o p f e d r) (some : e ≢ 0) {s : ℕ}
       (es : s ≡ ones e) where
     grown : Duals w c (λ i. K .u i + bit (bitOr e (holders o d)) i) (λ k. K .v k + bit d k) (r + s)
-    grown = raised S (K .ready .duals) (K .tight) (K .filled) some es
+    grown = raised-duals S (K .ready .duals) (K .tight) (K .filled) some es
 
     -- the number grows, and not beyond the number of items
     pub number-le : r + s ≤ length w
@@ -224,7 +224,7 @@ module _ {w c : List ℕ} (S : Square w c) where
         record {
           duals = grown;
           levels = L (K .v) (K .ready .levels);
-          prices = K .ready .prices;
-          price = λ i h. omega (arith, K .ready .price i h, bit-empty i, ap (λ z. bit z i) E);
+          item-duals = K .ready .item-duals;
+          item-dual = λ i h. omega (arith, K .ready .item-dual i h, bit-empty i, ap (λ z. bit z i) E);
           small = λ i h. omega (arith, grown .cap i h, number-le, S .few);
         }

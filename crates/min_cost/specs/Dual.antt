@@ -1,4 +1,4 @@
--- The duals of the fewest callouts. w are the open words, c the callout words, u the items' numbers less 1, v the slots' numbers,
+-- The duals of the fewest callouts. w are the open words, c the callout words, u the items' duals less 1, v the slots' duals,
 -- t the words of tight cells, l the levels: word x of l has the slots with v = x. Assumes nothing.
 use mathlib.Core.Path.{_≡_}
 use mathlib.Core.Logic.{_⊎_}
@@ -37,19 +37,19 @@ Lifted l d l′ = (v : ℕ → ℕ) → Levels l v → Levels l′ (λ k. v k + 
 unfoldable pub tightWord : List ℕ → ℕ → ℕ → ℕ → ℕ
 tightWord l cells calls u = bitAnd cells (select (getD l (u + 1) 0) calls (getD l u 0))
 
-pub record Repriceable (w c l u t : List ℕ) (up : ℕ) : Type 0 where
+pub record Raisable (w c l u t : List ℕ) (up : ℕ) : Type 0 where
   pub few : length w ≤ 64
   pub same : length c ≡ length w
   pub levels : length l ≡ 66
-  pub prices : length u ≡ 64
+  pub item-duals : length u ≡ 64
   pub words : length t ≡ length w
   pub room : (i : ℕ) → i < length w → getD u i 0 + bit up i ≤ 64
 
-pub record Repriced (w c l u : List ℕ) (up : ℕ) (u′ t′ : List ℕ) : Type 0 where
+pub record Raised (w c l u : List ℕ) (up : ℕ) (u′ t′ : List ℕ) : Type 0 where
   pub range : (i : ℕ) → i < length w → getD c i 0 < 2 ^ 64
-  pub prices : length u′ ≡ 64
+  pub item-duals : length u′ ≡ 64
   pub words : length t′ ≡ length w
-  pub price : (i : ℕ) → i < length w → getD u′ i 0 ≡ getD u i 0 + bit up i
+  pub item-dual : (i : ℕ) → i < length w → getD u′ i 0 ≡ getD u i 0 + bit up i
   pub word : (i : ℕ) → i < length w → getD t′ i 0 ≡ tightWord l (getD w i 0) (getD c i 0) (getD u i 0 + bit up i)
 
 -- ---- the plan

@@ -1,5 +1,5 @@
 // The fewest callouts: the minimum-cost perfect matching with costs 0 and 1, by duals, and among these the first in dictionary
-// order. The duals are u[i] = price[i] + 1 of the items and v[j] of the slots, all 1 at first, with u[i] <= cost(i, j) + v[j] on
+// order. The duals are u[i] = dual[i] + 1 of the items and v[j] of the slots, all 1 at first, with u[i] <= cost(i, j) + v[j] on
 // every open cell, cost 1 for a callout, else 0; a cell is tight where both sides are equal. level[x] are the slots with v = x.
 ghost use mathlib.Core.Path.{_≡_};
 ghost use mathlib.Core.List.{List};
@@ -8,7 +8,7 @@ ghost use lib.ListN.{length};
 ghost use Rattle.model.specs.Plans.{IsPlan};
 ghost use Rattle.model.specs.Fewest.{fewest, fewestPlans};
 ghost use Rattle.model.specs.Answers.{fewestOf};
-ghost use Rattle.min_cost.specs.Dual.{Square, Lifted, Repriceable, Repriced, Cheapest};
+ghost use Rattle.min_cost.specs.Dual.{Square, Lifted, Raisable, Raised, Cheapest};
 use model::Plan;
 use model::PlanAnswer;
 
@@ -34,22 +34,22 @@ fn lift(level: &mut [u64; 66], dead: u64)
 }
 
 // u of the items of `up` grows by 1, and each item's word of tight cells is made anew.
-fn reprice(
+fn raise(
     opens: &[u64],
     callouts: &[u64],
     level: &[u64; 66],
-    price: &mut [usize; 64],
+    dual: &mut [usize; 64],
     tight: &mut [u64],
     up: u64,
 )
-    requires { ⌜ Repriceable (now opens) (now callouts) (now level) (now price) (now tight) up ⌝ }
-    ensures { λ _. ⌜ Repriced (now (opens .entry)) (now (callouts .entry)) (now (level .entry)) (now (price .entry)) up (now (price .exit)) (now (tight .exit)) ⌝ }
+    requires { ⌜ Raisable (now opens) (now callouts) (now level) (now dual) (now tight) up ⌝ }
+    ensures { λ _. ⌜ Raised (now (opens .entry)) (now (callouts .entry)) (now (level .entry)) (now (dual .entry)) up (now (dual .exit)) (now (tight .exit)) ⌝ }
 {
     let mut i = 0;
     while i < opens.len() {
-        let p = price[i] + words::bit(up, i);
-        price[i] = p;
-        tight[i] = opens[i] & words::select(level[p + 1], callouts[i], level[p]);
+        let d = dual[i] + words::bit(up, i);
+        dual[i] = d;
+        tight[i] = opens[i] & words::select(level[d + 1], callouts[i], level[d]);
         i += 1;
     }
 }
@@ -62,17 +62,17 @@ fn cheapest(opens: &[u64], callouts: &[u64], tight: &mut [u64]) -> Cheap
     let all = words::low(64);
     let mut owner = [0u8; 64];
     let mut slot = [0u8; 64];
-    let mut price = [0usize; 64];
+    let mut dual = [0usize; 64];
     let mut level = [0u64; 66];
     level[1] = all;
-    reprice(opens, callouts, &level, &mut price, tight, 0);
+    raise(opens, callouts, &level, &mut dual, tight, 0);
     let mut m = maximum::fill(tight, &mut owner, &mut slot, all, words::low(opens.len()));
     let mut number = 0;
     while m.exposed != 0 {
         number += words::size(m.exposed);
         let up = maximum::deficient_set(&owner, m.exposed, m.dead);
         lift(&mut level, m.dead);
-        reprice(opens, callouts, &level, &mut price, tight, up);
+        raise(opens, callouts, &level, &mut dual, tight, up);
         m = maximum::refill(tight, &mut owner, &mut slot, m.free, m.exposed, m.dead);
     }
     least::settle(tight, &mut owner, &mut slot, m.free, 0, 0);

@@ -9,16 +9,16 @@ use Rattle.maximum.proofs.Deficient.{dead-owners, none-exposed-complete}
 use Rattle.maximum.proofs.Filling.{all-fillable}
 use Rattle.least.proofs.Firsts.{whole-settleable}
 use Rattle.min_cost.proofs.Duals.{settled-cheapest}
-use Rattle.min_cost.proofs.Raises.{Rounds, refillable, ready-repriceable, ready-tight, ready-rounds, start-ready, number-le, number-less, raise-ready}
+use Rattle.min_cost.proofs.Raises.{Rounds, refillable, ready-raisable, ready-tight, ready-rounds, start-ready, number-le, number-less, raise-ready}
 use Rattle.min_cost.proofs.cheapest.Statement.{statement}
 use Rattle.min_cost.proofs.cheapest.Tie as tie
 
 abbrev Inv-loop : tie.InvT-loop
-Inv-loop opens callouts tight₀ all owner₀ slot₀ price₀ level₀ m₀ number₀ tight owner slot price level m number =
-    Rounds opens callouts tight price level owner slot (m .free) (m .exposed) (m .dead) number
+Inv-loop opens callouts tight₀ all owner₀ slot₀ dual₀ level₀ m₀ number₀ tight owner slot dual level m number =
+    Rounds opens callouts tight dual level owner slot (m .free) (m .exposed) (m .dead) number
 
 abbrev μ-loop : tie.MeasureT-loop
-μ-loop opens callouts tight₀ all owner₀ slot₀ price₀ level₀ m₀ number₀ tight owner slot price level m number = length opens - number
+μ-loop opens callouts tight₀ all owner₀ slot₀ dual₀ level₀ m₀ number₀ tight owner slot dual level m number = length opens - number
 
 abbrev start : tie.After-low Inv-loop μ-loop → tie.Start Inv-loop μ-loop
 start c = c .before .before .before .before
@@ -31,7 +31,7 @@ fill-requires c κs =
     let a = c .before .before .before .before .before .before in
     let b = a .before .before .before .before in
     let S = start b .pre .0 in
-    let R = a .reprice .ensures in
+    let R = a .raise .ensures in
     rw (b .low .ensures)
     (all-fillable _ (omega (arith, R .words, S .few)) (ready-tight S (start-ready S (b .low .ensures)) R .range) _ (c .low2 .ensures ∙ ap low (sym (R .words))))
 
@@ -41,13 +41,13 @@ number-room c =
     let l = c .before .before .before in
     number-le (start-of l .pre .0) (start-of l .pre .1) (l .loop .inv) (c .before .if1 .taken) (c .size .ensures)
 
-reprice-requires-2 : tie.Need-reprice-requires-2 Inv-loop μ-loop
-reprice-requires-2 c κs =
+raise-requires-2 : tie.Need-raise-requires-2 Inv-loop μ-loop
+raise-requires-2 c κs =
     let f = c .before .before .before in
     let s = f .before .before .before .before in
     let l = s .before .before .before in
     let P = start-of l .pre in
-    ready-repriceable (P .0) (raise-ready (P .0) (P .1) (l .loop .inv) (s .before .if1 .taken) (s .size .ensures) (f .lift .ensures) (f .before .before .deficient-set .ensures))
+    ready-raisable (P .0) (raise-ready (P .0) (P .1) (l .loop .inv) (s .before .if1 .taken) (s .size .ensures) (f .lift .ensures) (f .before .before .deficient-set .ensures))
     (l .loop .inv .tight .sized)
 
 refill-requires : tie.Need-refill-requires Inv-loop μ-loop
@@ -58,7 +58,7 @@ refill-requires c κs =
     let K = s .before .before .before .loop .inv in
     let P = start-of (s .before .before .before) .pre in
     refillable (P .0) (K .ready .duals) (K .tight) (K .filled)
-    (ready-tight (P .0) (raise-ready (P .0) (P .1) K (s .before .if1 .taken) (s .size .ensures) (f .lift .ensures) (f .before .before .deficient-set .ensures)) (a .reprice2 .ensures))
+    (ready-tight (P .0) (raise-ready (P .0) (P .1) K (s .before .if1 .taken) (s .size .ensures) (f .lift .ensures) (f .before .before .deficient-set .ensures)) (a .raise2 .ensures))
 
 loop-less : tie.Need-loop-less Inv-loop μ-loop
 loop-less c =
@@ -74,7 +74,7 @@ loop-again c =
     let l = s .before .before .before in
     let P = start-of l .pre in
     ready-rounds (P .0) (raise-ready (P .0) (P .1) (l .loop .inv) (s .before .if1 .taken) (s .size .ensures) (f .lift .ensures) (f .before .before .deficient-set .ensures))
-    (a .reprice2 .ensures) (c .refill .ensures)
+    (a .raise2 .ensures) (c .refill .ensures)
 
 settle-requires : tie.Need-settle-requires Inv-loop μ-loop
 settle-requires c κs =
@@ -94,16 +94,16 @@ cheapest-spec =
     μ-loop
     (λ c κs. search needs)
     (λ c. search needs)
-    (λ c κs. let b = c .before .before .before in let P = start b .pre in ready-repriceable (P .0) (start-ready (P .0) (b .low .ensures)) (P .2))
+    (λ c κs. let b = c .before .before .before in let P = start b .pre in ready-raisable (P .0) (start-ready (P .0) (b .low .ensures)) (P .2))
     (λ c κs. omega arith)
     fill-requires
     (λ c. let a = c .before .before .before .before .before .before .before in let b = a .before .before .before .before in
-    ready-rounds (start b .pre .0) (start-ready (start b .pre .0) (b .low .ensures)) (a .reprice .ensures) (c .fill .ensures))
+    ready-rounds (start b .pre .0) (start-ready (start b .pre .0) (b .low .ensures)) (a .raise .ensures) (c .fill .ensures))
     (λ c κs. search needs)
     (λ c. omega (arith, number-room c))
     (λ c κs. dead-owners _ _ _ _ _ _ (c .before .before .before .before .loop .inv .filled))
     (λ c κs. c .before .before .before .before .before .before .loop .inv .ready .levels .sized)
-    reprice-requires-2
+    raise-requires-2
     refill-requires
     loop-less
     loop-again

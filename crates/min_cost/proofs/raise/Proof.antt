@@ -1,40 +1,40 @@
--- `min_cost::reprice` meets its contract: a turn makes one item's price and word. Assumes nothing.
+-- `min_cost::raise` meets its contract: a turn makes one item's dual and word. Assumes nothing.
 use Prim.Native.Nat.{_+_, _-_, _≤_}
 use native.Mathlib.Omega.{arith}
 use borrow.Author.Needs.{needs}
 use lib.ListN.{length, getD}
-use Rattle.min_cost.proofs.Levels.{Repricing, repricing-start, price-room, repricing-turn, repricing-end}
-use Rattle.min_cost.proofs.reprice.Statement.{statement}
-use Rattle.min_cost.proofs.reprice.Tie as tie
+use Rattle.min_cost.proofs.Levels.{Raising, raising-start, dual-room, raising-turn, raising-end}
+use Rattle.min_cost.proofs.raise.Statement.{statement}
+use Rattle.min_cost.proofs.raise.Tie as tie
 
 abbrev Inv-loop : tie.InvT-loop
-Inv-loop opens callouts level price₀ tight₀ up i₀ price tight i = Repricing opens callouts level price₀ up tight₀ price tight i
+Inv-loop opens callouts level dual₀ tight₀ up i₀ dual tight i = Raising opens callouts level dual₀ up tight₀ dual tight i
 
 abbrev μ-loop : tie.MeasureT-loop
-μ-loop opens callouts level price₀ tight₀ up i₀ price tight i = length opens - i
+μ-loop opens callouts level dual₀ tight₀ up i₀ dual tight i = length opens - i
 
 -- what the loop's head knows
 abbrev start : (c : tie.At-loop Inv-loop μ-loop) → tie.Start Inv-loop μ-loop
 start c = c .before .before .before .before
 
-room : (c : tie.After-bit Inv-loop μ-loop) → let l = c .before .before .before .loop in getD (l .price) (l .i) 0 + c .bit .result ≤ 64
+room : (c : tie.After-bit Inv-loop μ-loop) → let l = c .before .before .before .loop in getD (l .dual) (l .i) 0 + c .bit .result ≤ 64
 room c =
     let l = c .before .before .before in
-    price-room (start l .pre) (l .loop .inv) (c .before .before .loop-test .taken) _ (c .bit .ensures)
+    dual-room (start l .pre) (l .loop .inv) (c .before .before .loop-test .taken) _ (c .bit .ensures)
 
 loop-again : tie.Need-loop-again Inv-loop μ-loop
 loop-again c =
     let b = c .before .before .before .before .before in
     let l = b .before .before .before in
-    repricing-turn (start l .pre) (l .loop .inv) (b .before .before .loop-test .taken) _ _ (b .bit .ensures) (c .select .ensures)
+    raising-turn (start l .pre) (l .loop .inv) (b .before .before .loop-test .taken) _ _ (b .bit .ensures) (c .select .ensures)
 
-pub reprice-spec : {M : Type 1} → statement M
-reprice-spec =
+pub raise-spec : {M : Type 1} → statement M
+raise-spec =
     tie.close
     (tie.spec
     Inv-loop
     μ-loop
-    (λ c. repricing-start (c .before .before .before .pre))
+    (λ c. raising-start (c .before .before .before .pre))
     (λ c. omega arith)
     (λ c. omega arith)
     (λ c κs. omega arith)
@@ -57,4 +57,4 @@ reprice-spec =
     (λ c. omega arith)
     loop-again
     (λ c. search needs)
-    (λ c. repricing-end (start (c .before) .pre) (c .before .loop .inv) (omega arith) (λ x h. omega (arith, c .before .before .before .shared-slice-known2 .given x))))
+    (λ c. raising-end (start (c .before) .pre) (c .before .loop .inv) (omega arith) (λ x h. omega (arith, c .before .before .before .shared-slice-known2 .given x))))
