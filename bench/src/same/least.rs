@@ -60,12 +60,12 @@ pub fn later(opens: &[u64], from: usize, table: &mut [u64; 64]) {
 
 // Whether an item may leave its slot s at all, with the items before it left alone: only if an item after it may use s, or it or one
 // of these may use a free slot. `after` are the slots open to the items after it; 0 means no.
-pub fn loose(s: usize, word: u64, after: u64, free: u64) -> u64 {
+pub fn can_leave(s: usize, word: u64, after: u64, free: u64) -> u64 {
     (after & words::single(s)) | ((after | word) & free)
 }
 
 // Item x gets the least slot that leaves those of the items before it to them.
-pub fn sink(
+pub fn minimize(
     opens: &[u64],
     owner: &mut [u8; 64],
     slot: &mut [u8; 64],
@@ -76,7 +76,7 @@ pub fn sink(
 ) -> Found {
     let s = words::wide(slot[x]);
     let word = opens[x];
-    if loose(s, word, after, free) == 0 {
+    if can_leave(s, word, after, free) == 0 {
         return Found { at: s, word: free };
     }
     lower(opens, owner, slot, free, x, word, keep)
@@ -91,7 +91,7 @@ pub fn settle(opens: &[u64], owner: &mut [u8; 64], slot: &mut [u8; 64], free: u6
     let mut i = from;
     while i < opens.len() {
         let after = table[i];
-        let r = sink(opens, owner, slot, f, i, after, kept);
+        let r = minimize(opens, owner, slot, f, i, after, kept);
         f = r.word;
         kept = words::with(kept, r.at);
         i += 1;

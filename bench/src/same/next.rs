@@ -65,7 +65,7 @@ pub fn climb(
 ) -> Found {
     let s = words::wide(slot[x]);
     let word = opens[x];
-    if least::loose(s, word, after, free) == 0 {
+    if least::can_leave(s, word, after, free) == 0 {
         return Found { at: 64, word: free };
     }
     let may = words::minus(word, words::low(s + 1));

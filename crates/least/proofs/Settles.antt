@@ -1,4 +1,4 @@
--- The items of a complete table get their least slots one after the other: the steps of `later`, `sink` and `settle`.
+-- The items of a complete table get their least slots one after the other: the steps of `later`, `minimize` and `settle`.
 -- Assumes nothing.
 use mathlib.Core.Path.{_≡_, refl, sym, ap, _∙_}
 use mathlib.Core.Logic.{_≢_}
@@ -18,7 +18,7 @@ use Rattle.augment.specs.Search.{Within}
 use Rattle.augment.proofs.Moves.{same-or}
 use Rattle.augment.proofs.Bars.{Shut, Agrees, slot-lt}
 use Rattle.augment.proofs.Completes.{complete-plan}
-use Rattle.least.specs.Least.{Kept, Lowerable, Lowered, After, Prefix, Sinkable, Settleable, Same-to, Settled}
+use Rattle.least.specs.Least.{Kept, Lowerable, Lowered, After, Prefix, Minimizable, Settleable, Same-to, Settled}
 use Rattle.least.proofs.Shifts.{own-slot, held-without, closed-bars}
 
 -- ---- later: from the last item down to i
@@ -94,23 +94,23 @@ module _ (w o p : List ℕ) (f x keep : ℕ) (P : Prefix w o p f x keep) where
             omega (arith, c, bit-with-le keep k l, bit-lt (with keep k) l));
       })
 
--- ---- sink: where x can't leave its slot s
+-- ---- minimize: where x can't leave its slot s
 
-module _ (w o p : List ℕ) (f x after keep s : ℕ) (S : Sinkable w o p f x after keep) (fits : f < 2 ^ 64) (es : s ≡ at p x) where
+module _ (w o p : List ℕ) (f x after keep s : ℕ) (S : Minimizable w o p f x after keep) (fits : f < 2 ^ 64) (es : s ≡ at p x) where
   kept : Kept w o p f x keep
   kept = prefix-kept w o p f x keep (S .before) (S .known)
 
-  pub sink-slot : s < 64
-  sink-slot = rw es (own-slot w o p f x keep kept .slot)
+  pub minimize-slot : s < 64
+  minimize-slot = rw es (own-slot w o p f x keep kept .slot)
 
-  pub sink-lowerable : (word : ℕ) → word ≡ getD w x 0 → Lowerable w o p f x word keep
-  sink-lowerable word e =
+  pub minimize-lowerable : (word : ℕ) → word ≡ getD w x 0 → Lowerable w o p f x word keep
+  minimize-lowerable word e =
       rw e (record { kept = kept; cells = λ k h. omega arith; has = complete-plan w o p f (S .before .complete) .open-cell x (S .known) })
 
-  module _ (loose : bitOr (bitAnd after (2 ^ s)) (bitAnd (bitOr after (getD w x 0)) f) ≡ 0) where
+  module _ (stays : bitOr (bitAnd after (2 ^ s)) (bitAnd (bitOr after (getD w x 0)) f) ≡ 0) where
     nowhere : (k : ℕ) → (max (bit after k) (bit (getD w x 0) k) + bit f k ≤ 1) × (bit after (at p x) ≡ 0)
     nowhere k =
-        let z : (l : ℕ) → bit (bitOr (bitAnd after (2 ^ s)) (bitAnd (bitOr after (getD w x 0)) f)) l ≡ 0 = λ l. ap (λ v. bit v l) loose ∙ bit-empty l in (
+        let z : (l : ℕ) → bit (bitOr (bitAnd after (2 ^ s)) (bitAnd (bitOr after (getD w x 0)) f)) l ≡ 0 = λ l. ap (λ v. bit v l) stays ∙ bit-empty l in (
           omega (
             arith,
             z k,
@@ -185,8 +185,8 @@ module _ (w o p : List ℕ) (f x after keep s : ℕ) (S : Sinkable w o p f x aft
           nowhere k .0,
         )))
 
-    pub sink-pinned : Lowered w o x (getD w x 0) keep o p f s
-    sink-pinned =
+    pub minimize-pinned : Lowered w o x (getD w x 0) keep o p f s
+    minimize-pinned =
         record {
           complete = S .before .complete;
           slot = sym es;
@@ -213,8 +213,8 @@ settling-end w p₀ from o p f keep i S h =
     record { plan = complete-plan w o p f (S .before .complete); same = S .same; least = λ x l g. S .least x l (omega (arith, S .high)) }
 
 module _ (w p₀ : List ℕ) (from : ℕ) (o p : List ℕ) (f keep i : ℕ) (S : Settling w p₀ from o p f keep i) (more : i < length w) where
-  pub settling-sinkable : {after : ℕ} → After w i after → Sinkable w o p f i after keep
-  settling-sinkable A = record { before = S .before; known = more; later = A }
+  pub settling-minimizable : {after : ℕ} → After w i after → Minimizable w o p f i after keep
+  settling-minimizable A = record { before = S .before; known = more; later = A }
 
   module _ (o′ p′ : List ℕ) (f′ k : ℕ) (H : Lowered w o i (getD w i 0) keep o′ p′ f′ k) where
     P : Prefix w o p f i keep

@@ -51,7 +51,7 @@ pub record Lowered (w o : List ℕ) (x may keep : ℕ) (o′ p′ : List ℕ) (f
   pub keeps : (l : ℕ) → l < 64 → bit keep l ≡ 1 → (bit f′ l ≡ 0) × (own o′ l ≡ own o l)
   pub least : (q : List ℕ) → IsPlan w q → Agrees o keep q → bit may (at q x) ≡ 1 → k ≤ at q x
 
--- ---- sink
+-- ---- minimize
 
 -- the slots open to the items after x
 abbrev pub After : List ℕ → ℕ → ℕ → Type 0
@@ -68,7 +68,7 @@ pub record Prefix (w o p : List ℕ) (f x keep : ℕ) : Type 0 where
   pub only : (k : ℕ) → k < 64 → bit keep k ≡ 1 → own o k < x
   pub all : (k : ℕ) → k < 64 → bit f k ≡ 0 → own o k < x → bit keep k ≡ 1
 
-pub record Sinkable (w o p : List ℕ) (f x after keep : ℕ) : Type 0 where
+pub record Minimizable (w o p : List ℕ) (f x after keep : ℕ) : Type 0 where
   pub before : Prefix w o p f x keep
   pub known : x < length w
   pub later : After w x after

@@ -8,7 +8,7 @@ ghost use lib.ListN.{length, getD};
 ghost use Rattle.model.specs.Plans.{plans};
 ghost use Rattle.model.specs.Answers.{firstOf};
 ghost use Rattle.augment.specs.Search.{Same};
-ghost use Rattle.least.specs.Least.{Shiftable, Shifted, Stuck, Lowerable, Lowered, Later, Sinkable, Settleable, Settled};
+ghost use Rattle.least.specs.Least.{Shiftable, Shifted, Stuck, Lowerable, Lowered, Later, Minimizable, Settleable, Settled};
 use augment::Found;
 use model::Plan;
 use model::PlanAnswer;
@@ -78,7 +78,7 @@ pub fn later(opens: &[u64], from: usize, table: &mut [u64; 64])
 
 // Whether an item may leave its slot s at all, with the items before it left alone: only if an item after it may use s, or it or one
 // of these may use a free slot. `after` are the slots open to the items after it; 0 means no.
-pub fn loose(s: usize, word: u64, after: u64, free: u64) -> u64
+pub fn can_leave(s: usize, word: u64, after: u64, free: u64) -> u64
     requires { ⌜ s < 64 ⌝ }
     ensures { λ r. ⌜ r ≡ bitOr (bitAnd after (2 ^ s)) (bitAnd (bitOr after word) free) ⌝ }
 {
@@ -86,7 +86,7 @@ pub fn loose(s: usize, word: u64, after: u64, free: u64) -> u64
 }
 
 // Item x gets the least slot that leaves those of the items before it to them.
-pub fn sink(
+pub fn minimize(
     opens: &[u64],
     owner: &mut [u8; 64],
     slot: &mut [u8; 64],
@@ -95,12 +95,12 @@ pub fn sink(
     after: u64,
     keep: u64,
 ) -> Found
-    requires { ⌜ Sinkable (now opens) (now owner) (now slot) free x after keep ⌝ }
+    requires { ⌜ Minimizable (now opens) (now owner) (now slot) free x after keep ⌝ }
     ensures { λ r. ⌜ Lowered (now (opens .entry)) (now (owner .entry)) x (getD (now (opens .entry)) x 0) keep (now (owner .exit)) (now (slot .exit)) (r .word) (r .at) ⌝ }
 {
     let s = words::wide(slot[x]);
     let word = opens[x];
-    if loose(s, word, after, free) == 0 {
+    if can_leave(s, word, after, free) == 0 {
         return Found { at: s, word: free };
     }
     lower(opens, owner, slot, free, x, word, keep)
@@ -125,7 +125,7 @@ pub fn settle(
     let mut i = from;
     while i < opens.len() {
         let after = table[i];
-        let r = sink(opens, owner, slot, f, i, after, kept);
+        let r = minimize(opens, owner, slot, f, i, after, kept);
         f = r.word;
         kept = words::with(kept, r.at);
         i += 1;

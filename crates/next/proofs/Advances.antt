@@ -21,7 +21,7 @@ use Rattle.augment.specs.Search.{Within, Same}
 use Rattle.augment.proofs.Moves.{same-or}
 use Rattle.augment.proofs.Bars.{slot-lt}
 use Rattle.augment.proofs.Completes.{complete-plan}
-use Rattle.least.specs.Least.{Stuck, Lowered, Prefix, Sinkable, Settleable, Same-to, Settled}
+use Rattle.least.specs.Least.{Stuck, Lowered, Prefix, Minimizable, Settleable, Same-to, Settled}
 use Rattle.least.proofs.Settles.{prefix-agrees, prefix-stays, prefix-next}
 use Rattle.least.proofs.Firsts.{settled-before}
 use Rattle.next.specs.Next.{above}
@@ -78,8 +78,8 @@ module _ (w g o p : List ℕ) (f keep after i x s keep′ : ℕ) (A : Advancing 
             bit-without-other keep (at g x) k d ∙ A .before .all k h b (omega arith);
       })
 
-  pub advancing-sinkable : Sinkable w o p f x after keep′
-  advancing-sinkable = rw (A .slots) (record { before = prefix; known = known; later = λ y h l. A .later y (omega arith) l })
+  pub advancing-minimizable : Minimizable w o p f x after keep′
+  advancing-minimizable = rw (A .slots) (record { before = prefix; known = known; later = λ y h l. A .later y (omega arith) l })
 
   -- x can't climb
   pub advancing-stuck : (o′ p′ : List ℕ) → Same o p o′ p′ × Stuck w o x (above w p x) keep′ → Advancing w g o′ p′ f keep′ (bitOr after (getD w x 0)) x

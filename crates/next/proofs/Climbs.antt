@@ -12,7 +12,7 @@ use Rattle.words.proofs.Bits.{bit-lt, bit-empty, bit-minus, bit-low, bit-low-hi
 use Rattle.augment.specs.Table.{at, cell}
 use Rattle.augment.specs.Search.{Within, Same}
 use Rattle.augment.proofs.Bars.{slot-lt}
-use Rattle.least.specs.Least.{Kept, Shiftable, Shifted, Stuck, Lowerable, Lowered, Sinkable}
+use Rattle.least.specs.Least.{Kept, Shiftable, Shifted, Stuck, Lowerable, Lowered, Minimizable}
 use Rattle.least.proofs.Shifts.{own-slot, not-kept}
 use Rattle.least.proofs.Settles.{prefix-kept, pinned}
 use Rattle.next.specs.Next.{above}
@@ -31,7 +31,7 @@ module _ (w p : List ℕ) (x : ℕ) (h : at p x < 64) (k : ℕ) (l : k < 64) whe
 
 -- ---- climb
 
-module _ (w o p : List ℕ) (f x after keep s : ℕ) (C : Sinkable w o p f x after keep) (es : s ≡ at p x) where
+module _ (w o p : List ℕ) (f x after keep s : ℕ) (C : Minimizable w o p f x after keep) (es : s ≡ at p x) where
   kept : Kept w o p f x keep
   kept = prefix-kept w o p f x keep (C .before) (C .known)
 

@@ -8,7 +8,7 @@ ghost use Rattle.model.specs.Plans.{isPlan, plansAfter, IsPlan};
 ghost use Rattle.model.specs.Answers.{nextOf, refused};
 ghost use Rattle.augment.specs.Table.{Complete};
 ghost use Rattle.augment.specs.Search.{Same};
-ghost use Rattle.least.specs.Least.{Sinkable, Lowered, Stuck};
+ghost use Rattle.least.specs.Least.{Minimizable, Lowered, Stuck};
 ghost use Rattle.next.specs.Next.{Zeros, Adopted, above};
 use augment::Found;
 use model::Plan;
@@ -83,13 +83,13 @@ pub fn climb(
     after: u64,
     keep: u64,
 ) -> Found
-    requires { ⌜ Sinkable (now opens) (now owner) (now slot) free x after keep ⌝ }
+    requires { ⌜ Minimizable (now opens) (now owner) (now slot) free x after keep ⌝ }
     ensures found { λ r. ⌜ (r .at ≢ 64 → Lowered (now (opens .entry)) (now (owner .entry)) x (above (now (opens .entry)) (now (slot .entry)) x) keep (now (owner .exit)) (now (slot .exit)) (r .word) (r .at)) ⌝ }
     ensures none { λ r. ⌜ (r .at ≡ 64 → Same (now (owner .entry)) (now (slot .entry)) (now (owner .exit)) (now (slot .exit)) × Stuck (now (opens .entry)) (now (owner .entry)) x (above (now (opens .entry)) (now (slot .entry)) x) keep) ⌝ }
 {
     let s = words::wide(slot[x]);
     let word = opens[x];
-    if least::loose(s, word, after, free) == 0 {
+    if least::can_leave(s, word, after, free) == 0 {
         return Found { at: 64, word: free };
     }
     let may = words::minus(word, words::low(s + 1));

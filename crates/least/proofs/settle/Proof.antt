@@ -3,7 +3,7 @@ use mathlib.Core.Path.{refl}
 use native.Mathlib.Omega.{arith}
 use Prim.Native.Nat.{_-_}
 use lib.ListN.{length}
-use Rattle.least.proofs.Settles.{Settling, settling-start, settling-sinkable, settling-slot, settling-turn, settling-end}
+use Rattle.least.proofs.Settles.{Settling, settling-start, settling-minimizable, settling-slot, settling-turn, settling-end}
 use Rattle.least.proofs.settle.Statement.{statement}
 use Rattle.least.proofs.settle.Tie as tie
 
@@ -25,16 +25,16 @@ mul-after c = omega (arith, c .before .loop .inv .before .complete .table .few)
 array-read-after : tie.Need-array-read-after Inv-loop μ-loop
 array-read-after c = omega (arith, c .before .loop .inv .before .complete .table .few)
 
-sink-requires : tie.Need-sink-requires Inv-loop μ-loop
-sink-requires c κs =
+minimize-requires : tie.Need-minimize-requires Inv-loop μ-loop
+minimize-requires c κs =
     let l = c .before .before .before in
     let t = c .before .before .loop-test .taken in
-    settling-sinkable _ _ _ _ _ _ _ _ (l .loop .inv) t (l .before .later .ensures _ (l .loop .inv .low) t)
+    settling-minimizable _ _ _ _ _ _ _ _ (l .loop .inv) t (l .before .later .ensures _ (l .loop .inv .low) t)
 
 with-requires : tie.Need-with-requires Inv-loop μ-loop
 with-requires c κs =
     let l = c .before .before .before .before in
-    settling-slot _ _ _ _ _ _ _ _ (l .loop .inv) (c .before .before .before .loop-test .taken) _ _ _ _ (c .sink .ensures)
+    settling-slot _ _ _ _ _ _ _ _ (l .loop .inv) (c .before .before .before .loop-test .taken) _ _ _ _ (c .minimize .ensures)
 
 add-i : tie.Need-add-i Inv-loop μ-loop
 add-i c = omega arith
@@ -45,7 +45,7 @@ loop-less c = omega arith
 loop-again : tie.Need-loop-again Inv-loop μ-loop
 loop-again c =
     let l = c .before .before .before .before .before in
-    settling-turn _ _ _ _ _ _ _ _ (l .loop .inv) (c .before .before .before .before .loop-test .taken) _ _ _ _ (c .before .sink .ensures) _ (c .with .ensures)
+    settling-turn _ _ _ _ _ _ _ _ (l .loop .inv) (c .before .before .before .before .loop-test .taken) _ _ _ _ (c .before .minimize .ensures) _ (c .with .ensures)
 
 returns : tie.Need-returns Inv-loop μ-loop
 returns c = settling-end _ _ _ _ _ _ _ _ (c .before .loop .inv) (c .loop-test .left)
@@ -60,7 +60,7 @@ settle-spec =
     loop-holds
     mul-after
     array-read-after
-    sink-requires
+    minimize-requires
     with-requires
     add-i
     loop-less

@@ -1,7 +1,7 @@
 -- `next::advance` meets its contract: an item that can not climb joins the stuck ones, the first that can gives the next plan. Assumes nothing.
 use mathlib.Core.Path.{refl}
 use native.Mathlib.Omega.{arith}
-use Rattle.next.proofs.Advances.{Advancing, advancing-start, advancing-slot, advancing-sinkable, advancing-stuck, advancing-below, advancing-settleable, advancing-found, advancing-end}
+use Rattle.next.proofs.Advances.{Advancing, advancing-start, advancing-slot, advancing-minimizable, advancing-stuck, advancing-below, advancing-settleable, advancing-found, advancing-end}
 use borrow.Author.Needs.{needs}
 use Rattle.next.proofs.advance.Statement.{statement}
 use Rattle.next.proofs.advance.Tie as tie
@@ -34,7 +34,7 @@ without-requires : tie.Need-without-requires Inv-loop μ-loop
 without-requires c κs = advancing-slot _ _ _ _ _ _ _ _ _ _ _ (c .before .before .loop .inv) (omega arith) (c .wide .ensures) refl
 
 climb-requires : tie.Need-climb-requires Inv-loop μ-loop
-climb-requires c κs = advancing-sinkable _ _ _ _ _ _ _ _ _ _ _ (c .before .before .before .before .before .loop .inv) (omega arith) (c .before .before .before .wide .ensures) (c .before .before .without .ensures)
+climb-requires c κs = advancing-minimizable _ _ _ _ _ _ _ _ _ _ _ (c .before .before .before .before .before .loop .inv) (omega arith) (c .before .before .before .wide .ensures) (c .before .before .without .ensures)
 
 add-settle : tie.Need-add-settle Inv-loop μ-loop
 add-settle c = omega (arith, c .before .before .before .before .before .before .before .before .before .before .loop .inv .within, c .before .before .before .before .before .before .before .before .before .before .loop .inv .before .complete .table .few)

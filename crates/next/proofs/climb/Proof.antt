@@ -18,11 +18,11 @@ mul-word c = search needs
 shared-slice-read-word : tie.Need-shared-slice-read-word
 shared-slice-read-word c = search needs
 
-loose-requires : tie.Need-loose-requires
-loose-requires c κs = climb-slot _ _ _ _ _ _ _ _ (c .before .before .before .before .pre) (c .before .wide .ensures)
+can-leave-requires : tie.Need-can-leave-requires
+can-leave-requires c κs = climb-slot _ _ _ _ _ _ _ _ (c .before .before .before .before .pre) (c .before .wide .ensures)
 
 returns : tie.Need-returns
-returns c = (λ n. absurd (n refl), λ e. (record { owner = refl; slot = refl }, climb-pinned _ _ _ _ _ _ _ _ (c .before .before .before .before .before .before .pre) (c .before .before .before .wide .ensures) (search needs) (sym (c .before .loose .ensures) ∙ c .if1 .taken)))
+returns c = (λ n. absurd (n refl), λ e. (record { owner = refl; slot = refl }, climb-pinned _ _ _ _ _ _ _ _ (c .before .before .before .before .before .before .pre) (c .before .before .before .wide .ensures) (search needs) (sym (c .before .can-leave .ensures) ∙ c .if1 .taken)))
 
 add-low : tie.Need-add-low
 add-low c = omega (arith, climb-slot _ _ _ _ _ _ _ _ (c .before .before .before .before .before .before .pre) (c .before .before .before .wide .ensures))
@@ -80,7 +80,7 @@ climb-spec =
     wide-requires
     mul-word
     shared-slice-read-word
-    loose-requires
+    can-leave-requires
     returns
     add-low
     low-requires
