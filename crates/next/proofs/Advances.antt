@@ -25,7 +25,7 @@ use Rattle.least.specs.Least.{Stuck, Lowered, Prefix, Minimizable, Settleable, 
 use Rattle.least.proofs.Settles.{prefix-agrees, prefix-stays, prefix-next}
 use Rattle.least.proofs.Firsts.{settled-before}
 use Rattle.next.specs.Next.{above}
-use Rattle.next.proofs.Climbs.{above-high, above-low}
+use Rattle.next.proofs.ItemAdvances.{above-high, above-low}
 
 pub record Advancing (w g o p : List ℕ) (f keep after i : ℕ) : Type 0 where
   pub slots : p ≡ g
@@ -81,7 +81,7 @@ module _ (w g o p : List ℕ) (f keep after i x s keep′ : ℕ) (A : Advancing 
   pub advancing-minimizable : Minimizable w o p f x after keep′
   advancing-minimizable = rw (A .slots) (record { before = prefix; known = known; later = λ y h l. A .later y (omega arith) l })
 
-  -- x can't climb
+  -- x can't advance
   pub advancing-stuck : (o′ p′ : List ℕ) → Same o p o′ p′ × Stuck w o x (above w p x) keep′ → Advancing w g o′ p′ f keep′ (bitOr after (getD w x 0)) x
   advancing-stuck o′ p′ r =
       rw (r .0 .owner)
@@ -93,13 +93,13 @@ module _ (w g o p : List ℕ) (f keep after i x s keep′ : ℕ) (A : Advancing 
             (λ e. omega (arith, bit-or after (getD w x 0) k, ap (λ z. bit (getD w z 0) k) e))
             (λ d. omega (arith, bit-or after (getD w x 0) k, A .later y (omega arith) l k m));
         stuck = λ y h l q Q S. same-or y x
-            (λ e. rw e (no-climb q Q (λ m n. S m (omega arith)) (decLt (at g x) (at q x))))
+            (λ e. rw e (no-advance q Q (λ m n. S m (omega arith)) (decLt (at g x) (at q x))))
             (λ d. A .stuck y (omega arith) l q Q S);
       })
     where
-      no-climb : (q : List ℕ) → IsPlan w q → Same-to q g x → Dec (at g x < at q x) → at q x ≤ at g x
-      no-climb q Q S (no m) = omega arith
-      no-climb q Q S (yes l) =
+      no-advance : (q : List ℕ) → IsPlan w q → Same-to q g x → Dec (at g x < at q x) → at q x ≤ at g x
+      no-advance q Q S (no m) = omega arith
+      no-advance q Q S (yes l) =
           let h = slot-lt w o g f (C .table) q Q x known in
           absurd (omega (
             arith,
@@ -108,7 +108,7 @@ module _ (w g o p : List ℕ) (f keep after i x s keep′ : ℕ) (A : Advancing 
             Q .open-cell x known,
           ))
 
-  -- x has climbed to k
+  -- x has advanced to k
   module _ (o′ p′ : List ℕ) (f′ k : ℕ) (L : Lowered w o x (above w p x) keep′ o′ p′ f′ k) where
     M : Lowered w o x (above w g x) keep′ o′ p′ f′ k
     M = rw (A .slots) at L
@@ -120,8 +120,8 @@ module _ (w g o p : List ℕ) (f keep after i x s keep′ : ℕ) (A : Advancing 
     advancing-settleable keep₂ e =
         record { before = prefix-next w o g f x keep′ prefix known o′ p′ f′ k keep₂ (M .complete) (M .slot) (M .keeps) e; within = omega arith }
 
-    climbed : at g x < k
-    climbed = go (decLt (at g x) k)
+    advanced : at g x < k
+    advanced = go (decLt (at g x) k)
       where
         go : Dec (at g x < k) → at g x < k
         go (yes l) = l
@@ -139,7 +139,7 @@ module _ (w g o p : List ℕ) (f keep after i x s keep′ : ℕ) (A : Advancing 
       G = complete-plan w o g f C
 
       after-g : Before g r
-      after-g = before-by g r x (omega (arith, known, G .sized, C .table .few)) (omega (arith, known, S .plan .sized, C .table .few)) (λ l h. sym (same l h)) (omega (arith, here, climbed))
+      after-g = before-by g r x (omega (arith, known, G .sized, C .table .few)) (omega (arith, known, S .plan .sized, C .table .few)) (λ l h. sym (same l h)) (omega (arith, here, advanced))
 
       least : (q : List ℕ) → IsPlan w q → Before g q → (q ≡ r) ⊎ Before r q
       least q Q b =

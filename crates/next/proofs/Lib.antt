@@ -1,3 +1,3 @@
 pub mod Adopts
-pub mod Climbs
+pub mod ItemAdvances
 pub mod Advances

@@ -74,7 +74,7 @@ pub fn adopt(opens: &[u64], plan: [u8; 64], owner: &mut [u8; 64]) -> Adoption
 
 // Item x moves to the least slot above its own that leaves those of the items before it to them, if there is one. `after` are the
 // slots open to the items after it.
-pub fn climb(
+pub fn advance_item(
     opens: &[u64],
     owner: &mut [u8; 64],
     slot: &mut [u8; 64],
@@ -104,7 +104,7 @@ pub fn climb(
     least::lower(opens, owner, slot, r.word, x, may, keep)
 }
 
-// The plan after the one that a complete table holds; 10 where none follows. From the last item on, the first that can climb does,
+// The plan after the one that a complete table holds; 10 where none follows. From the last item on, the first that can advance does,
 // and the items after it get their least slots.
 pub fn advance(opens: &[u64], plan: [u8; 64], owner: &mut [u8; 64], free: u64) -> PlanAnswer
     requires { ⌜ Complete (now opens) (now owner) plan free ⌝ }
@@ -117,7 +117,7 @@ pub fn advance(opens: &[u64], plan: [u8; 64], owner: &mut [u8; 64], free: u64) -
     while i > 0 {
         i -= 1;
         keep = words::without(keep, words::wide(plan[i]));
-        let r = climb(opens, owner, &mut slot, free, i, after, keep);
+        let r = advance_item(opens, owner, &mut slot, free, i, after, keep);
         if r.at != 64 {
             least::settle(
                 opens,

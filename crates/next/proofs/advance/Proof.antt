@@ -1,4 +1,4 @@
--- `next::advance` meets its contract: an item that can not climb joins the stuck ones, the first that can gives the next plan. Assumes nothing.
+-- `next::advance` meets its contract: an item that can not advance joins the stuck ones, the first that can gives the next plan. Assumes nothing.
 use mathlib.Core.Path.{refl}
 use native.Mathlib.Omega.{arith}
 use Rattle.next.proofs.Advances.{Advancing, advancing-start, advancing-slot, advancing-minimizable, advancing-stuck, advancing-below, advancing-settleable, advancing-found, advancing-end}
@@ -33,20 +33,20 @@ wide-requires c κs = search needs
 without-requires : tie.Need-without-requires Inv-loop μ-loop
 without-requires c κs = advancing-slot _ _ _ _ _ _ _ _ _ _ _ (c .before .before .loop .inv) (omega arith) (c .wide .ensures) refl
 
-climb-requires : tie.Need-climb-requires Inv-loop μ-loop
-climb-requires c κs = advancing-minimizable _ _ _ _ _ _ _ _ _ _ _ (c .before .before .before .before .before .loop .inv) (omega arith) (c .before .before .before .wide .ensures) (c .before .before .without .ensures)
+advance-item-requires : tie.Need-advance-item-requires Inv-loop μ-loop
+advance-item-requires c κs = advancing-minimizable _ _ _ _ _ _ _ _ _ _ _ (c .before .before .before .before .before .loop .inv) (omega arith) (c .before .before .before .wide .ensures) (c .before .before .without .ensures)
 
 add-settle : tie.Need-add-settle Inv-loop μ-loop
 add-settle c = omega (arith, c .before .before .before .before .before .before .before .before .before .before .loop .inv .within, c .before .before .before .before .before .before .before .before .before .before .loop .inv .before .complete .table .few)
 
 with-requires : tie.Need-with-requires Inv-loop μ-loop
-with-requires c κs = advancing-below _ _ _ _ _ _ _ _ _ _ _ (c .before .before .before .before .before .before .before .before .before .before .loop .inv) (omega arith) (c .before .before .before .before .before .before .before .before .wide .ensures) (c .before .before .before .before .before .before .before .without .ensures) _ _ _ _ (c .before .before .before .before .climb .ensures .0 (c .before .before .if1 .taken))
+with-requires c κs = advancing-below _ _ _ _ _ _ _ _ _ _ _ (c .before .before .before .before .before .before .before .before .before .before .loop .inv) (omega arith) (c .before .before .before .before .before .before .before .before .wide .ensures) (c .before .before .before .before .before .before .before .without .ensures) _ _ _ _ (c .before .before .before .before .advance-item .ensures .0 (c .before .before .if1 .taken))
 
 settle-requires : tie.Need-settle-requires Inv-loop μ-loop
-settle-requires c κs = advancing-settleable _ _ _ _ _ _ _ _ _ _ _ (c .before .before .before .before .before .before .before .before .before .before .before .loop .inv) (omega arith) (c .before .before .before .before .before .before .before .before .before .wide .ensures) (c .before .before .before .before .before .before .before .before .without .ensures) _ _ _ _ (c .before .before .before .before .before .climb .ensures .0 (c .before .before .before .if1 .taken)) _ (c .with .ensures)
+settle-requires c κs = advancing-settleable _ _ _ _ _ _ _ _ _ _ _ (c .before .before .before .before .before .before .before .before .before .before .before .loop .inv) (omega arith) (c .before .before .before .before .before .before .before .before .before .wide .ensures) (c .before .before .before .before .before .before .before .before .without .ensures) _ _ _ _ (c .before .before .before .before .before .advance-item .ensures .0 (c .before .before .before .if1 .taken)) _ (c .with .ensures)
 
 returns : tie.Need-returns Inv-loop μ-loop
-returns c = advancing-found _ _ _ _ _ _ _ _ _ _ _ (c .before .before .before .before .before .before .before .before .before .before .before .before .loop .inv) (omega arith) (c .before .before .before .before .before .before .before .before .before .before .wide .ensures) (c .before .before .before .before .before .before .before .before .before .without .ensures) _ _ _ _ (c .before .before .before .before .before .before .climb .ensures .0 (c .before .before .before .before .if1 .taken)) _ (c .settle .ensures)
+returns c = advancing-found _ _ _ _ _ _ _ _ _ _ _ (c .before .before .before .before .before .before .before .before .before .before .before .before .loop .inv) (omega arith) (c .before .before .before .before .before .before .before .before .before .before .wide .ensures) (c .before .before .before .before .before .before .before .before .before .without .ensures) _ _ _ _ (c .before .before .before .before .before .before .advance-item .ensures .0 (c .before .before .before .before .if1 .taken)) _ (c .settle .ensures)
 
 mul-after : tie.Need-mul-after Inv-loop μ-loop
 mul-after c = omega (arith, c .before .before .before .before .before .before .before .before .loop .inv .within, c .before .before .before .before .before .before .before .before .loop .inv .before .complete .table .few)
@@ -58,7 +58,7 @@ loop-less : tie.Need-loop-less Inv-loop μ-loop
 loop-less c = omega arith
 
 loop-again : tie.Need-loop-again Inv-loop μ-loop
-loop-again c = advancing-stuck _ _ _ _ _ _ _ _ _ _ _ (c .before .before .before .before .before .before .before .before .before .loop .inv) (omega arith) (c .before .before .before .before .before .before .before .wide .ensures) (c .before .before .before .before .before .before .without .ensures) _ _ (c .before .before .before .climb .ensures .1 (c .before .if1 .left))
+loop-again c = advancing-stuck _ _ _ _ _ _ _ _ _ _ _ (c .before .before .before .before .before .before .before .before .before .loop .inv) (omega arith) (c .before .before .before .before .before .before .before .wide .ensures) (c .before .before .before .before .before .before .without .ensures) _ _ (c .before .before .before .advance-item .ensures .1 (c .before .if1 .left))
 
 refusal-requires : tie.Need-refusal-requires Inv-loop μ-loop
 refusal-requires c κs = search needs
@@ -79,7 +79,7 @@ advance-spec =
     array-read-wide
     wide-requires
     without-requires
-    climb-requires
+    advance-item-requires
     add-settle
     with-requires
     settle-requires

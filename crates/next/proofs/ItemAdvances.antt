@@ -1,4 +1,4 @@
--- The steps of `climb`: the item leaves its slot for one above, and goes down among these. Assumes nothing.
+-- The steps of `advance_item`: the item leaves its slot for one above, and goes down among these. Assumes nothing.
 use mathlib.Core.Path.{_≡_, sym, ap, _∙_}
 use mathlib.Core.List.{List}
 use Prim.Native.Nat.{ℕ, _+_, _-_, _^_, _≤_, _<_, min}
@@ -29,7 +29,7 @@ module _ (w p : List ℕ) (x : ℕ) (h : at p x < 64) (k : ℕ) (l : k < 64) whe
   pub above-low : k ≤ at p x → bit (above w p x) k ≡ 0
   above-low g = omega (arith, above-bit, bit-low (at p x + 1) k (omega arith))
 
--- ---- climb
+-- ---- advance_item
 
 module _ (w o p : List ℕ) (f x after keep s : ℕ) (C : Minimizable w o p f x after keep) (es : s ≡ at p x) where
   kept : Kept w o p f x keep
@@ -38,12 +38,12 @@ module _ (w o p : List ℕ) (f x after keep s : ℕ) (C : Minimizable w o p f x 
   own-lt : at p x < 64
   own-lt = own-slot w o p f x keep kept .slot
 
-  pub climb-slot : s < 64
-  climb-slot = rw es own-lt
+  pub advance-item-slot : s < 64
+  advance-item-slot = rw es own-lt
 
   -- it can't leave its slot
-  pub climb-pinned : f < 2 ^ 64 → bitOr (bitAnd after (2 ^ s)) (bitAnd (bitOr after (getD w x 0)) f) ≡ 0 → Stuck w o x (above w p x) keep
-  climb-pinned fits z q Q A =
+  pub advance-item-pinned : f < 2 ^ 64 → bitOr (bitAnd after (2 ^ s)) (bitAnd (bitOr after (getD w x 0)) f) ≡ 0 → Stuck w o x (above w p x) keep
+  advance-item-pinned fits z q Q A =
       ap (bit (above w p x)) (pinned w o p f x after keep s C fits es z q Q A ∙ es) ∙ above-low w p x own-lt (at p x) own-lt (omega arith)
 
   module _ (l may cand : ℕ) (fits : keep < 2 ^ 64) (el : l ≡ low (s + 1)) (em : may ≡ minus (getD w x 0) l) (ec : cand ≡ minus may keep) where
@@ -62,14 +62,14 @@ module _ (w o p : List ℕ) (f x after keep s : ℕ) (C : Minimizable w o p f x 
         let h = slot-lt w o p f (C .before .complete .table) q Q x (C .known) in
         omega (arith, T q Q A, in-cand (at q x) h, not-kept w o p f x keep kept q Q A, bit-lt (above w p x) (at q x))
 
-    pub climb-none : cand ≡ 0 → Stuck w o x (above w p x) keep
-    climb-none z = stuck (λ q Q A. ap (λ v. bit v (at q x)) z ∙ bit-empty (at q x))
+    pub advance-item-none : cand ≡ 0 → Stuck w o x (above w p x) keep
+    advance-item-none z = stuck (λ q Q A. ap (λ v. bit v (at q x)) z ∙ bit-empty (at q x))
 
-    pub climb-stuck : (o′ p′ : List ℕ) → Same o p o′ p′ × Stuck w o x cand keep → Same o p o′ p′ × Stuck w o x (above w p x) keep
-    climb-stuck o′ p′ r = (r .0, stuck (r .1))
+    pub advance-item-stuck : (o′ p′ : List ℕ) → Same o p o′ p′ × Stuck w o x cand keep → Same o p o′ p′ × Stuck w o x (above w p x) keep
+    advance-item-stuck o′ p′ r = (r .0, stuck (r .1))
 
-    pub climb-shiftable : Shiftable w o p f x cand keep
-    climb-shiftable =
+    pub advance-item-shiftable : Shiftable w o p f x cand keep
+    advance-item-shiftable =
         record {
           kept = kept;
           cells = λ k h. omega (arith, in-cand k h, cells k h);
@@ -77,8 +77,8 @@ module _ (w o p : List ℕ) (f x after keep s : ℕ) (C : Minimizable w o p f x 
         }
 
     module _ (o₁ p₁ : List ℕ) (f₁ k : ℕ) (H : Shifted w o x cand keep o₁ p₁ f₁ k) where
-      pub climb-lowerable : Lowerable w o₁ p₁ f₁ x may keep
-      climb-lowerable =
+      pub advance-item-lowerable : Lowerable w o₁ p₁ f₁ x may keep
+      advance-item-lowerable =
           let h : k < 64 = omega (arith, H .slot, H .complete .all x (C .known) .slot) in
           rw may-is
           (record {
@@ -93,11 +93,11 @@ module _ (w o p : List ℕ) (f x after keep s : ℕ) (C : Minimizable w o p f x 
           })
 
       module _ (o₂ p₂ : List ℕ) (f₂ j : ℕ) (L : Lowered w o₁ x may keep o₂ p₂ f₂ j) where
-        pub climb-below : j < 64
-        climb-below = omega (arith, L .slot, L .complete .all x (C .known) .slot)
+        pub advance-item-below : j < 64
+        advance-item-below = omega (arith, L .slot, L .complete .all x (C .known) .slot)
 
-        pub climb-lowered : Lowered w o x (above w p x) keep o₂ p₂ f₂ j
-        climb-lowered =
+        pub advance-item-lowered : Lowered w o x (above w p x) keep o₂ p₂ f₂ j
+        advance-item-lowered =
             let M = rw may-is at L in
             record {
               complete = M .complete;
