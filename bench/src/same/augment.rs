@@ -69,7 +69,7 @@ pub fn vacate(opens: &[u64], owner: &mut [u8; 64], slot: &mut [u8; 64], free: u6
     relocate(opens, owner, slot, r.word, set, r.at)
 }
 
-// Item x, which holds no slot, gets one of `cand` if that is possible with the slots of `keep` left to their holders.
+// Item x, which holds no slot, gets one of `cand` if that is possible with the slots of `fixed` left to their holders.
 pub fn assign(
     opens: &[u64],
     owner: &mut [u8; 64],
@@ -77,7 +77,7 @@ pub fn assign(
     free: u64,
     x: usize,
     cand: u64,
-    keep: u64,
+    fixed: u64,
 ) -> Found {
     let hit = cand & free;
     if hit != 0 {
@@ -86,7 +86,7 @@ pub fn assign(
         slot[x] = h as u8;
         return Found { at: h, word: words::without(free, h) };
     }
-    let r = vacate(opens, owner, slot, free, cand, keep | cand);
+    let r = vacate(opens, owner, slot, free, cand, fixed | cand);
     if r.at == 64 {
         return r;
     }

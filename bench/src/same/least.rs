@@ -5,7 +5,7 @@ use super::augment::Found;
 use super::{augment, maximum, words};
 use crate::records::{Plan, PlanAnswer};
 
-// Item x moves to a slot of `cand` if that is possible with the slots of `keep` left to their holders.
+// Item x moves to a slot of `cand` if that is possible with the slots of `fixed` left to their holders.
 pub fn shift(
     opens: &[u64],
     owner: &mut [u8; 64],
@@ -13,13 +13,13 @@ pub fn shift(
     free: u64,
     x: usize,
     cand: u64,
-    keep: u64,
+    fixed: u64,
 ) -> Found {
     let s = words::wide(slot[x]);
-    augment::assign(opens, owner, slot, words::with(free, s), x, cand, keep)
+    augment::assign(opens, owner, slot, words::with(free, s), x, cand, fixed)
 }
 
-// Item x, which holds a slot of `may`, moves to the least of these that leaves the slots of `keep` to their holders.
+// Item x, which holds a slot of `may`, moves to the least of these that leaves the slots of `fixed` to their holders.
 pub fn lower(
     opens: &[u64],
     owner: &mut [u8; 64],
@@ -27,9 +27,9 @@ pub fn lower(
     free: u64,
     x: usize,
     may: u64,
-    keep: u64,
+    fixed: u64,
 ) -> Found {
-    let all = words::minus(may, keep);
+    let all = words::minus(may, fixed);
     let mut f = free;
     let mut s = words::wide(slot[x]);
     while s != 0 {
@@ -37,7 +37,7 @@ pub fn lower(
         if cand == 0 {
             return Found { at: s, word: f };
         }
-        let r = shift(opens, owner, slot, f, x, cand, keep);
+        let r = shift(opens, owner, slot, f, x, cand, fixed);
         if r.at == 64 {
             return Found { at: s, word: f };
         }
@@ -72,28 +72,28 @@ pub fn minimize(
     free: u64,
     x: usize,
     after: u64,
-    keep: u64,
+    fixed: u64,
 ) -> Found {
     let s = words::wide(slot[x]);
     let word = opens[x];
     if can_leave(s, word, after, free) == 0 {
         return Found { at: s, word: free };
     }
-    lower(opens, owner, slot, free, x, word, keep)
+    lower(opens, owner, slot, free, x, word, fixed)
 }
 
-// The items from `from` on get, one after the other, their least slots; `keep` are the slots of the items before.
-pub fn settle(opens: &[u64], owner: &mut [u8; 64], slot: &mut [u8; 64], free: u64, from: usize, keep: u64) {
+// The items from `from` on get, one after the other, their least slots; `fixed` are the slots of the items before.
+pub fn settle(opens: &[u64], owner: &mut [u8; 64], slot: &mut [u8; 64], free: u64, from: usize, fixed: u64) {
     let mut table = [0u64; 64];
     later(opens, from, &mut table);
     let mut f = free;
-    let mut kept = keep;
+    let mut fixed_now = fixed;
     let mut i = from;
     while i < opens.len() {
         let after = table[i];
-        let r = minimize(opens, owner, slot, f, i, after, kept);
+        let r = minimize(opens, owner, slot, f, i, after, fixed_now);
         f = r.word;
-        kept = words::with(kept, r.at);
+        fixed_now = words::with(fixed_now, r.at);
         i += 1;
     }
 }

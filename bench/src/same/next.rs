@@ -61,7 +61,7 @@ pub fn advance_item(
     free: u64,
     x: usize,
     after: u64,
-    keep: u64,
+    fixed: u64,
 ) -> Found {
     let s = words::wide(slot[x]);
     let word = opens[x];
@@ -69,30 +69,30 @@ pub fn advance_item(
         return Found { at: 64, word: free };
     }
     let may = words::minus(word, words::low(s + 1));
-    let cand = words::minus(may, keep);
+    let cand = words::minus(may, fixed);
     if cand == 0 {
         return Found { at: 64, word: free };
     }
-    let r = least::shift(opens, owner, slot, free, x, cand, keep);
+    let r = least::shift(opens, owner, slot, free, x, cand, fixed);
     if r.at == 64 {
         return r;
     }
-    least::lower(opens, owner, slot, r.word, x, may, keep)
+    least::lower(opens, owner, slot, r.word, x, may, fixed)
 }
 
 // The plan after the one that a complete table holds; 10 where none follows. From the last item on, the first that can advance does,
 // and the items after it get their least slots.
 pub fn advance(opens: &[u64], plan: [u8; 64], owner: &mut [u8; 64], free: u64) -> PlanAnswer {
     let mut slot = plan;
-    let mut keep = words::minus(words::low(64), free);
+    let mut fixed = words::minus(words::low(64), free);
     let mut after: u64 = 0;
     let mut i = opens.len();
     while i > 0 {
         i -= 1;
-        keep = words::without(keep, words::wide(plan[i]));
-        let r = advance_item(opens, owner, &mut slot, free, i, after, keep);
+        fixed = words::without(fixed, words::wide(plan[i]));
+        let r = advance_item(opens, owner, &mut slot, free, i, after, fixed);
         if r.at != 64 {
-            least::settle(opens, owner, &mut slot, r.word, i + 1, words::with(keep, r.at));
+            least::settle(opens, owner, &mut slot, r.word, i + 1, words::with(fixed, r.at));
             return PlanAnswer { code: 0, shortage: 0, items: 0, callouts: 0, plan: Plan { slots: slot } };
         }
         after = after | opens[i];

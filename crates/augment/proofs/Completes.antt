@@ -38,8 +38,8 @@ module _ (w o p : List ℕ) (f : ℕ) (C : Complete w o p f) where
     leave-stay y g d = release-stay w o p f (C .table) (at p x) (M .slot) (M .held) y (λ e. d (e ∙ M .owns)) (C .all y g)
 
     -- and takes another
-    pub take-complete : (cand keep : ℕ) (o′ p′ : List ℕ) (f′ k : ℕ) → Assigned w o p (with f (at p x)) x cand keep o′ p′ f′ k → Complete w o′ p′ f′
-    take-complete cand keep o′ p′ f′ k A =
+    pub take-complete : (cand fixed : ℕ) (o′ p′ : List ℕ) (f′ k : ℕ) → Assigned w o p (with f (at p x)) x cand fixed o′ p′ f′ k → Complete w o′ p′ f′
+    take-complete cand fixed o′ p′ f′ k A =
         record {
           table = A .table;
           all = λ y g. same-or y x (λ e. subst (Matched o′ p′ f′) (sym e) (A .holds)) (λ d. A .stay y (leave-stay y g d));

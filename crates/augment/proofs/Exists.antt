@@ -75,22 +75,22 @@ vacate (suc fuel) w o p f set′ seen enough fits Z =
     (omega (arith, next-more w o p f set′ seen fits Z none z)) (next-lt w o p f set′ seen fits Z none) (next-vacatable w o p f set′ seen fits Z none))
 
 -- item x gets a slot of cand, or a closed set holds all of cand
-pub assign-or : (w o p : List ℕ) (f x cand keep : ℕ) → cand < 2 ^ 64 → keep < 2 ^ 64 → Assignable w o p f x cand keep
-    → After (Assigned w o p f x cand keep) ⊎ ((t : ℕ) × Barred w o f cand keep t)
-assign-or w o p f x cand keep hc hk A = go (ℕ-discrete (bitAnd cand f) 0)
+pub assign-or : (w o p : List ℕ) (f x cand fixed : ℕ) → cand < 2 ^ 64 → fixed < 2 ^ 64 → Assignable w o p f x cand fixed
+    → After (Assigned w o p f x cand fixed) ⊎ ((t : ℕ) × Barred w o f cand fixed t)
+assign-or w o p f x cand fixed hc hk A = go (ℕ-discrete (bitAnd cand f) 0)
   where
-    found : Outcome w o p f cand (bitOr keep cand) → After (Assigned w o p f x cand keep) ⊎ ((t : ℕ) × Barred w o f cand keep t)
+    found : Outcome w o p f cand (bitOr fixed cand) → After (Assigned w o p f x cand fixed) ⊎ ((t : ℕ) × Barred w o f cand fixed t)
     found (inl r) = inl (record {
       owner = set (r .owner) (r .at) x;
       slot = set (r .slot) x (r .at);
       free = without (r .free) (r .at);
       at = r .at;
-      holds = assign-found w o p f x cand keep A _ _ _ _ (r .holds);
+      holds = assign-found w o p f x cand fixed A _ _ _ _ (r .holds);
     })
-    found (inr r) = inr (r .0, assign-barred w o p f x cand keep A (r .0) (r .1))
+    found (inr r) = inr (r .0, assign-barred w o p f x cand fixed A (r .0) (r .1))
 
-    go : Dec (bitAnd cand f ≡ 0) → After (Assigned w o p f x cand keep) ⊎ ((t : ℕ) × Barred w o f cand keep t)
+    go : Dec (bitAnd cand f ≡ 0) → After (Assigned w o p f x cand fixed) ⊎ ((t : ℕ) × Barred w o f cand fixed t)
     go (no z) =
         let h = lowest (bitAnd cand f) in
-        inl (record { owner = set o h x; slot = set p x h; free = without f h; at = h; holds = at-once w o p f x cand keep A h hc z refl })
-    go (yes none) = found (vacate 64 w o p f cand (bitOr keep cand) (omega arith) (or-lt 64 keep cand hk hc) (assign-vacatable w o p f x cand keep A none))
+        inl (record { owner = set o h x; slot = set p x h; free = without f h; at = h; holds = at-once w o p f x cand fixed A h hc z refl })
+    go (yes none) = found (vacate 64 w o p f cand (bitOr fixed cand) (omega arith) (or-lt 64 fixed cand hk hc) (assign-vacatable w o p f x cand fixed A none))

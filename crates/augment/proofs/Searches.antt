@@ -234,15 +234,15 @@ module _ (w o p : List ℕ) (f set′ seen : ℕ) (fits : seen < 2 ^ 64) (Z : Va
 
 -- ---- assign
 
-module _ (w o p : List ℕ) (f x cand keep : ℕ) (A : Assignable w o p f x cand keep) where
+module _ (w o p : List ℕ) (f x cand fixed : ℕ) (A : Assignable w o p f x cand fixed) where
   -- x takes slot k of cand, once that is free and the tables are o₁, p₁, f₁
   module _ (o₁ p₁ : List ℕ) (f₁ k : ℕ) (T : Table w o₁ p₁ f₁) (E : Exposed o₁ p₁ f₁ x) (h : k < 64) (b : bit cand k ≡ 1) (hole : bit f₁ k ≡ 1)
-      (kept : (l : ℕ) → l < 64 → bit keep l ≡ 1 → (bit f₁ l ≡ 0) × (own o₁ l ≡ own o l))
+      (kept : (l : ℕ) → l < 64 → bit fixed l ≡ 1 → (bit f₁ l ≡ 0) × (own o₁ l ≡ own o l))
       (stay : (y : ℕ) → Matched o p f y → Matched o₁ p₁ f₁ y) (new : (y : ℕ) → Matched o₁ p₁ f₁ y → Matched o p f y) where
     may : cell w x k ≡ 1
     may = omega (arith, A .may k h, bit-lt (getD w x 0) k)
 
-    assigned : Assigned w o p f x cand keep (set o₁ k x) (set p₁ x k) (without f₁ k) k
+    assigned : Assigned w o p f x cand fixed (set o₁ k x) (set p₁ x k) (without f₁ k) k
     assigned =
         record {
           table = take-table w o₁ p₁ f₁ T x k (A .known) E h hole may;
@@ -251,7 +251,7 @@ module _ (w o p : List ℕ) (f x cand keep : ℕ) (A : Assignable w o p f x cand
           holds = take-holds w o₁ p₁ f₁ T x k (A .known) E h hole may;
           slot = take-slot w o₁ p₁ f₁ T x k (A .known) E h hole may;
           kept = λ l g e.
-              let d : l ≢ k = λ q. omega (arith, A .apart k h, ap (bit keep) q) in
+              let d : l ≢ k = λ q. omega (arith, A .apart k h, ap (bit fixed) q) in
               let r = kept l g e in
               (take-free w o₁ p₁ f₁ T x k (A .known) E h hole may l d ∙ r .0, take-own w o₁ p₁ f₁ T x k (A .known) E h hole may l d ∙ r .1);
           stay = λ y M. take-stay w o₁ p₁ f₁ T x k (A .known) E h hole may y (stay y M);
@@ -262,37 +262,37 @@ module _ (w o p : List ℕ) (f x cand keep : ℕ) (A : Assignable w o p f x cand
   pub at-once-lt : (h : ℕ) → cand < 2 ^ 64 → bitAnd cand f ≢ 0 → h ≡ lowest (bitAnd cand f) → h < 64
   at-once-lt h l z e = common cand f h l z e .below
 
-  pub at-once : (h : ℕ) → cand < 2 ^ 64 → bitAnd cand f ≢ 0 → h ≡ lowest (bitAnd cand f) → Assigned w o p f x cand keep (set o h x) (set p x h) (without f h) h
+  pub at-once : (h : ℕ) → cand < 2 ^ 64 → bitAnd cand f ≢ 0 → h ≡ lowest (bitAnd cand f) → Assigned w o p f x cand fixed (set o h x) (set p x h) (without f h) h
   at-once h l z e =
       let c = common cand f h l z e in
       assigned o p f h (A .table) (A .exposed) (c .below) (c .left) (c .right) (λ l g b. (A .held l g b, refl)) (λ y M. M) (λ y M. M)
 
-  pub assign-vacatable : bitAnd cand f ≡ 0 → Vacatable w o p f cand (bitOr keep cand)
+  pub assign-vacatable : bitAnd cand f ≡ 0 → Vacatable w o p f cand (bitOr fixed cand)
   assign-vacatable none =
       record {
         table = A .table;
-        sub = λ k h. omega (arith, bit-or keep cand k);
-        held = λ k h b. same-or (bit keep k) 1
+        sub = λ k h. omega (arith, bit-or fixed cand k);
+        held = λ k h b. same-or (bit fixed k) 1
             (λ e. A .held k h e)
-            (λ d. apart cand f k none (omega (arith, bit-or keep cand k, bit-lt keep k)));
+            (λ d. apart cand f k none (omega (arith, bit-or fixed cand k, bit-lt fixed k)));
       }
 
-  pub assign-barred : (t : ℕ) → Certificate w o f cand (bitOr keep cand) t → Barred w o f cand keep t
+  pub assign-barred : (t : ℕ) → Certificate w o f cand (bitOr fixed cand) t → Barred w o f cand fixed t
   assign-barred t C =
       record {
-        kept = λ k h. omega (arith, C .more k h, bit-or keep cand k);
-        all = λ k h. omega (arith, C .more k h, bit-or keep cand k);
+        has-fixed = λ k h. omega (arith, C .more k h, bit-or fixed cand k);
+        all = λ k h. omega (arith, C .more k h, bit-or fixed cand k);
         held = C .held;
-        shut = λ k h b e. C .shut k h b (omega (arith, bit-or keep cand k));
+        shut = λ k h b e. C .shut k h b (omega (arith, bit-or fixed cand k));
         least = λ g s r c.
-            C .least g (λ k h. omega (arith, bit-or keep cand k, s k h, r k h))
-            (λ k h b e m. c k h b e (omega (arith, bit-or keep cand k, A .apart k h)));
+            C .least g (λ k h. omega (arith, bit-or fixed cand k, s k h, r k h))
+            (λ k h b e m. c k h b e (omega (arith, bit-or fixed cand k, A .apart k h)));
       }
 
-  pub assign-found : (o₁ p₁ : List ℕ) (f₁ k : ℕ) → Vacated w o p f cand (bitOr keep cand) o₁ p₁ f₁ k
-      → Assigned w o p f x cand keep (set o₁ k x) (set p₁ x k) (without f₁ k) k
+  pub assign-found : (o₁ p₁ : List ℕ) (f₁ k : ℕ) → Vacated w o p f cand (bitOr fixed cand) o₁ p₁ f₁ k
+      → Assigned w o p f x cand fixed (set o₁ k x) (set p₁ x k) (without f₁ k) k
   assign-found o₁ p₁ f₁ k U =
       assigned o₁ p₁ f₁ k (U .table) (λ M. A .exposed (U .new x M)) (U .below) (U .from) (U .hole)
       (λ l g b.
-      U .kept l g (omega (arith, bit-or keep cand l, bit-lt cand l)) (λ e. omega (arith, A .apart k (U .below), ap (bit keep) e, U .from)))
+      U .kept l g (omega (arith, bit-or fixed cand l, bit-lt cand l)) (λ e. omega (arith, A .apart k (U .below), ap (bit fixed) e, U .from)))
       (U .stay) (U .new)

@@ -76,33 +76,33 @@ pub record Same (o p o′ p′ : List ℕ) : Type 0 where
 
 -- ---- assign
 
--- item x is exposed, and may use the slots of cand; those of keep are held, and none of them is in cand
-pub record Assignable (w o p : List ℕ) (f x cand keep : ℕ) : Type 0 where
+-- item x is exposed, and may use the slots of cand; those of `fixed` are held, and none of them is in cand
+pub record Assignable (w o p : List ℕ) (f x cand fixed : ℕ) : Type 0 where
   pub table : Table w o p f
   pub known : x < length w
   pub exposed : Exposed o p f x
   pub may : Within cand (getD w x 0)
-  pub held : (k : ℕ) → k < 64 → bit keep k ≡ 1 → bit f k ≡ 0
-  pub apart : (k : ℕ) → k < 64 → bit cand k + bit keep k ≤ 1
+  pub held : (k : ℕ) → k < 64 → bit fixed k ≡ 1 → bit f k ≡ 0
+  pub apart : (k : ℕ) → k < 64 → bit cand k + bit fixed k ≤ 1
 
--- it holds slot k of cand; the slots of keep have their holders, and the other items hold slots as before
-pub record Assigned (w o p : List ℕ) (f x cand keep : ℕ) (o′ p′ : List ℕ) (f′ k : ℕ) : Type 0 where
+-- it holds slot k of cand; the slots of `fixed` have their holders, and the other items hold slots as before
+pub record Assigned (w o p : List ℕ) (f x cand fixed : ℕ) (o′ p′ : List ℕ) (f′ k : ℕ) : Type 0 where
   pub table : Table w o′ p′ f′
   pub below : k < 64
   pub from : bit cand k ≡ 1
   pub holds : Matched o′ p′ f′ x
   pub slot : at p′ x ≡ k
-  pub kept : (l : ℕ) → l < 64 → bit keep l ≡ 1 → (bit f′ l ≡ 0) × (own o′ l ≡ own o l)
+  pub kept : (l : ℕ) → l < 64 → bit fixed l ≡ 1 → (bit f′ l ≡ 0) × (own o′ l ≡ own o l)
   pub stay : (y : ℕ) → Matched o p f y → Matched o′ p′ f′ y
   pub new : (y : ℕ) → y ≢ x → Matched o′ p′ f′ y → Matched o p f y
 
--- It can have none of cand. t holds cand and keep, all its slots are held, and the holders of its slots outside keep may use no
--- slot outside t. It is the least such set.
-pub record Barred (w o : List ℕ) (f cand keep t : ℕ) : Type 0 where
-  pub kept : Within keep t
+-- It can have none of cand. t holds cand and `fixed`, all its slots are held, and the holders of its slots outside `fixed` may use
+-- no slot outside t. It is the least such set.
+pub record Barred (w o : List ℕ) (f cand fixed t : ℕ) : Type 0 where
+  pub has-fixed : Within fixed t
   pub all : Within cand t
   pub held : (k : ℕ) → k < 64 → bit t k ≡ 1 → bit f k ≡ 0
-  pub shut : (k : ℕ) → k < 64 → bit t k ≡ 1 → bit keep k ≡ 0 → Within (getD w (own o k) 0) t
-  pub least : (g : ℕ) → Within keep g → Within cand g
-      → ((k : ℕ) → k < 64 → bit g k ≡ 1 → bit t k ≡ 1 → bit keep k ≡ 0 → Within (getD w (own o k) 0) g)
+  pub shut : (k : ℕ) → k < 64 → bit t k ≡ 1 → bit fixed k ≡ 0 → Within (getD w (own o k) 0) t
+  pub least : (g : ℕ) → Within fixed g → Within cand g
+      → ((k : ℕ) → k < 64 → bit g k ≡ 1 → bit t k ≡ 1 → bit fixed k ≡ 0 → Within (getD w (own o k) 0) g)
       → Within t g

@@ -108,7 +108,7 @@ pub fn vacate(
     relocate(opens, owner, slot, r.word, set, r.at)
 }
 
-// Item x, which holds no slot, gets one of `cand` if that is possible with the slots of `keep` left to their holders.
+// Item x, which holds no slot, gets one of `cand` if that is possible with the slots of `fixed` left to their holders.
 pub fn assign(
     opens: &[u64],
     owner: &mut [u8; 64],
@@ -116,11 +116,11 @@ pub fn assign(
     free: u64,
     x: usize,
     cand: u64,
-    keep: u64,
+    fixed: u64,
 ) -> Found
-    requires { ⌜ Assignable (now opens) (now owner) (now slot) free x cand keep ⌝ }
-    ensures found { λ r. ⌜ (r .at ≢ 64 → Assigned (now (opens .entry)) (now (owner .entry)) (now (slot .entry)) free x cand keep (now (owner .exit)) (now (slot .exit)) (r .word) (r .at)) ⌝ }
-    ensures none { λ r. ⌜ (r .at ≡ 64 → Same (now (owner .entry)) (now (slot .entry)) (now (owner .exit)) (now (slot .exit)) × Barred (now (opens .entry)) (now (owner .entry)) free cand keep (r .word)) ⌝ }
+    requires { ⌜ Assignable (now opens) (now owner) (now slot) free x cand fixed ⌝ }
+    ensures found { λ r. ⌜ (r .at ≢ 64 → Assigned (now (opens .entry)) (now (owner .entry)) (now (slot .entry)) free x cand fixed (now (owner .exit)) (now (slot .exit)) (r .word) (r .at)) ⌝ }
+    ensures none { λ r. ⌜ (r .at ≡ 64 → Same (now (owner .entry)) (now (slot .entry)) (now (owner .exit)) (now (slot .exit)) × Barred (now (opens .entry)) (now (owner .entry)) free cand fixed (r .word)) ⌝ }
 {
     let hit = cand & free;
     if hit != 0 {
@@ -132,7 +132,7 @@ pub fn assign(
             word: words::without(free, h),
         };
     }
-    let r = vacate(opens, owner, slot, free, cand, keep | cand);
+    let r = vacate(opens, owner, slot, free, cand, fixed | cand);
     if r.at == 64 {
         return r;
     }

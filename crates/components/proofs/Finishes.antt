@@ -67,7 +67,7 @@ module _ {w o : List ℕ} {f : ℕ} {a : List ℕ} {rest path set out : ℕ} (K 
           held = λ k h e.
               bit-with-other f s k (λ q. omega (arith, in-earlier k h, ap (bit rest) q, s-rest))
               ∙ omega (arith, P .finished .shut k s h (M .slot) (omega (arith, in-earlier k h)) s-rest);
-          kept = λ k h. omega (arith, bit-empty k);
+          has-fixed = λ k h. omega (arith, bit-empty k);
           shut = λ k h e z l g. same-or (bit rest l) 1
               (λ q. omega (arith, P .finished .shut k l h g (omega (arith, in-earlier k h)) q))
               (λ d. omega (arith, in-earlier l g, bit-lt rest l, bit-lt (getD w (own o k) 0) l));

@@ -18,7 +18,7 @@ use Rattle.augment.specs.Search.{Within}
 use Rattle.augment.proofs.Moves.{same-or}
 use Rattle.augment.proofs.Bars.{Shut, Agrees, slot-lt}
 use Rattle.augment.proofs.Completes.{complete-plan}
-use Rattle.least.specs.Least.{Kept, Lowerable, Lowered, After, Prefix, Minimizable, Settleable, Same-to, Settled}
+use Rattle.least.specs.Least.{Fixed, Lowerable, Lowered, After, Prefix, Minimizable, Settleable, Same-to, Settled}
 use Rattle.least.proofs.Shifts.{own-slot, held-without, closed-bars}
 
 -- ---- later: from the last item down to i
@@ -50,18 +50,18 @@ module _ (w table : List ℕ) (all i : ℕ) (few : length w ≤ 64) (G : Gathere
 
 -- ---- the slots of the items before x
 
-module _ (w o p : List ℕ) (f x keep : ℕ) (P : Prefix w o p f x keep) where
-  pub prefix-kept : x < length w → Kept w o p f x keep
-  prefix-kept h =
+module _ (w o p : List ℕ) (f x fixed : ℕ) (P : Prefix w o p f x fixed) where
+  pub prefix-fixed : x < length w → Fixed w o p f x fixed
+  prefix-fixed h =
       record { complete = P .complete; known = h; held = P .held; others = λ k l b e. omega (arith, P .only k l b) }
 
   -- a plan that gives those items the same slots leaves these to their holders
-  pub prefix-agrees : (q : List ℕ) → Same-to q p x → Agrees o keep q
+  pub prefix-agrees : (q : List ℕ) → Same-to q p x → Agrees o fixed q
   prefix-agrees q S k h b = S (own o k) (P .only k h b) ∙ P .complete .table .back k h (P .held k h b)
 
   -- their slots stay theirs in every table that keeps them
   pub prefix-stays : x ≤ length w → (o′ p′ : List ℕ) (f′ : ℕ) → Complete w o′ p′ f′
-      → ((l : ℕ) → l < 64 → bit keep l ≡ 1 → (bit f′ l ≡ 0) × (own o′ l ≡ own o l)) → Same-to p′ p x
+      → ((l : ℕ) → l < 64 → bit fixed l ≡ 1 → (bit f′ l ≡ 0) × (own o′ l ≡ own o l)) → Same-to p′ p x
   prefix-stays h o′ p′ f′ C keeps l g =
       let M = P .complete .all l (omega arith) in
       let k = at p l in
@@ -69,9 +69,9 @@ module _ (w o p : List ℕ) (f x keep : ℕ) (P : Prefix w o p f x keep) where
       ap (at p′) (sym (r .1 ∙ M .owns)) ∙ C .table .back k (M .slot) (r .0)
 
   -- with x's new slot k they are the slots of the items before the next one
-  pub prefix-next : x < length w → (o′ p′ : List ℕ) (f′ k keep′ : ℕ) → Complete w o′ p′ f′ → at p′ x ≡ k
-      → ((l : ℕ) → l < 64 → bit keep l ≡ 1 → (bit f′ l ≡ 0) × (own o′ l ≡ own o l)) → keep′ ≡ with keep k → Prefix w o′ p′ f′ (x + 1) keep′
-  prefix-next g o′ p′ f′ k keep′ C slot keeps e =
+  pub prefix-next : x < length w → (o′ p′ : List ℕ) (f′ k fixed′ : ℕ) → Complete w o′ p′ f′ → at p′ x ≡ k
+      → ((l : ℕ) → l < 64 → bit fixed l ≡ 1 → (bit f′ l ≡ 0) × (own o′ l ≡ own o l)) → fixed′ ≡ with fixed k → Prefix w o′ p′ f′ (x + 1) fixed′
+  prefix-next g o′ p′ f′ k fixed′ C slot keeps e =
       let M′ = C .all x g in
       let same = prefix-stays (omega arith) o′ p′ f′ C keeps in
       rw e
@@ -79,33 +79,33 @@ module _ (w o p : List ℕ) (f x keep : ℕ) (P : Prefix w o p f x keep) where
         complete = C;
         held = λ l h b. same-or l k
             (λ q. ap (bit f′) (q ∙ sym slot) ∙ M′ .held)
-            (λ d. keeps l h (sym (bit-with-other keep k l d) ∙ b) .0);
+            (λ d. keeps l h (sym (bit-with-other fixed k l d) ∙ b) .0);
         only = λ l h b. same-or l k
             (λ q. omega (arith, ap (own o′) (q ∙ sym slot) ∙ M′ .owns))
-            (λ d. let c = sym (bit-with-other keep k l d) ∙ b in omega (arith, keeps l h c .1, P .only l h c));
+            (λ d. let c = sym (bit-with-other fixed k l d) ∙ b in omega (arith, keeps l h c .1, P .only l h c));
         all = λ l h b m. same-or (own o′ l) x
-            (λ q. ap (bit (with keep k)) (sym (C .table .back l h b) ∙ ap (at p′) q ∙ slot) ∙ bit-with keep k)
+            (λ q. ap (bit (with fixed k)) (sym (C .table .back l h b) ∙ ap (at p′) q ∙ slot) ∙ bit-with fixed k)
             (λ d.
             let y = own o′ l in
             let u : y < x = omega arith in
             let was : at p y ≡ l = sym (same y u) ∙ C .table .back l h b in
             let M = P .complete .all y (omega arith) in
             let c = P .all l h (ap (bit f) (sym was) ∙ M .held) (omega (arith, ap (own o) (sym was) ∙ M .owns)) in
-            omega (arith, c, bit-with-le keep k l, bit-lt (with keep k) l));
+            omega (arith, c, bit-with-le fixed k l, bit-lt (with fixed k) l));
       })
 
 -- ---- minimize: where x can't leave its slot s
 
-module _ (w o p : List ℕ) (f x after keep s : ℕ) (S : Minimizable w o p f x after keep) (fits : f < 2 ^ 64) (es : s ≡ at p x) where
-  kept : Kept w o p f x keep
-  kept = prefix-kept w o p f x keep (S .before) (S .known)
+module _ (w o p : List ℕ) (f x after fixed s : ℕ) (S : Minimizable w o p f x after fixed) (fits : f < 2 ^ 64) (es : s ≡ at p x) where
+  fixed-held : Fixed w o p f x fixed
+  fixed-held = prefix-fixed w o p f x fixed (S .before) (S .known)
 
   pub minimize-slot : s < 64
-  minimize-slot = rw es (own-slot w o p f x keep kept .slot)
+  minimize-slot = rw es (own-slot w o p f x fixed fixed-held .slot)
 
-  pub minimize-lowerable : (word : ℕ) → word ≡ getD w x 0 → Lowerable w o p f x word keep
+  pub minimize-lowerable : (word : ℕ) → word ≡ getD w x 0 → Lowerable w o p f x word fixed
   minimize-lowerable word e =
-      rw e (record { kept = kept; cells = λ k h. omega arith; has = complete-plan w o p f (S .before .complete) .open-cell x (S .known) })
+      rw e (record { fixed-held = fixed-held; cells = λ k h. omega arith; has = complete-plan w o p f (S .before .complete) .open-cell x (S .known) })
 
   module _ (stays : bitOr (bitAnd after (2 ^ s)) (bitAnd (bitOr after (getD w x 0)) f) ≡ 0) where
     nowhere : (k : ℕ) → (max (bit after k) (bit (getD w x 0) k) + bit f k ≤ 1) × (bit after (at p x) ≡ 0)
@@ -141,15 +141,15 @@ module _ (w o p : List ℕ) (f x after keep s : ℕ) (S : Minimizable w o p f x 
         bit-minus (low 64) (with f (at p x)) k (with-fits) h ∙ omega (arith, bit-low 64 k h, bit-lt (with f (at p x)) k)
       where
         with-fits : with f (at p x) < 2 ^ 64
-        with-fits = with-lt 64 f (at p x) fits (own-slot w o p f x keep kept .slot)
+        with-fits = with-lt 64 f (at p x) fits (own-slot w o p f x fixed fixed-held .slot)
 
-    others-shut : Shut w o (with f (at p x)) keep others
+    others-shut : Shut w o (with f (at p x)) fixed others
     others-shut =
         let T = S .before .complete .table in
         let s′ = at p x in
         record {
           held = λ k h b. omega (arith, in-others k h, bit-lt (with f s′) k);
-          kept = λ k h. same-or (bit keep k) 1 (λ b. omega (arith, in-others k h, held-without w o p f x keep kept k h b)) (λ m. omega (arith, bit-lt keep k));
+          has-fixed = λ k h. same-or (bit fixed k) 1 (λ b. omega (arith, in-others k h, held-without w o p f x fixed fixed-held k h b)) (λ m. omega (arith, bit-lt fixed k));
           shut = λ k h b c l g.
               let held : bit f k ≡ 0 = omega (arith, in-others k h, bit-with-le f s′ k) in
               let d : k ≢ s′ = λ e. omega (arith, in-others k h, ap (bit (with f s′)) e, bit-with f s′) in
@@ -162,13 +162,13 @@ module _ (w o p : List ℕ) (f x after keep s : ℕ) (S : Minimizable w o p f x 
         }
       where
         -- its holder comes after x
-        late : (k : ℕ) → k < 64 → bit f k ≡ 0 → k ≢ at p x → bit keep k ≡ 0 → Dec (own o k < x) → x < own o k
+        late : (k : ℕ) → k < 64 → bit f k ≡ 0 → k ≢ at p x → bit fixed k ≡ 0 → Dec (own o k < x) → x < own o k
         late k h b d c (yes l) = absurd (omega (arith, S .before .all k h b l))
         late k h b d c (no m) =
             let n : own o k ≢ x = λ e. d (sym (S .before .complete .table .back k h b) ∙ ap (at p) e) in
             omega arith
 
-    pub pinned : (q : List ℕ) → IsPlan w q → Agrees o keep q → at q x ≡ s
+    pub pinned : (q : List ℕ) → IsPlan w q → Agrees o fixed q → at q x ≡ s
     pinned q Q A =
         let T = S .before .complete .table in
         let k = at q x in
@@ -178,14 +178,14 @@ module _ (w o p : List ℕ) (f x after keep s : ℕ) (S : Minimizable w o p f x 
         (λ d.
         absurd (omega (
           arith,
-          closed-bars w o p f x keep kept others others-shut q Q A,
+          closed-bars w o p f x fixed fixed-held others others-shut q Q A,
           in-others k h,
           bit-with-other f (at p x) k d,
           Q .open-cell x (S .known),
           nowhere k .0,
         )))
 
-    pub minimize-pinned : Lowered w o x (getD w x 0) keep o p f s
+    pub minimize-pinned : Lowered w o x (getD w x 0) fixed o p f s
     minimize-pinned =
         record {
           complete = S .before .complete;
@@ -197,27 +197,27 @@ module _ (w o p : List ℕ) (f x after keep s : ℕ) (S : Minimizable w o p f x 
 
 -- ---- settle: the items from `from` to i have their least slots
 
-pub record Settling (w p₀ : List ℕ) (from : ℕ) (o p : List ℕ) (f keep i : ℕ) : Type 0 where
-  pub before : Prefix w o p f i keep
+pub record Settling (w p₀ : List ℕ) (from : ℕ) (o p : List ℕ) (f fixed i : ℕ) : Type 0 where
+  pub before : Prefix w o p f i fixed
   pub low : from ≤ i
   pub high : i ≤ length w
   pub same : Same-to p p₀ from
   pub least : (x : ℕ) → from ≤ x → x < i → (q : List ℕ) → IsPlan w q → Same-to q p x → at p x ≤ at q x
 
-pub settling-start : (w o p : List ℕ) (f from keep : ℕ) → Settleable w o p f from keep → Settling w p from o p f keep from
-settling-start w o p f from keep S =
+pub settling-start : (w o p : List ℕ) (f from fixed : ℕ) → Settleable w o p f from fixed → Settling w p from o p f fixed from
+settling-start w o p f from fixed S =
     record { before = S .before; low = omega arith; high = S .within; same = λ l h. refl; least = λ x h g. absurd (omega arith) }
 
-pub settling-end : (w p₀ : List ℕ) (from : ℕ) (o p : List ℕ) (f keep i : ℕ) → Settling w p₀ from o p f keep i → length w ≤ i → Settled w p₀ from p
-settling-end w p₀ from o p f keep i S h =
+pub settling-end : (w p₀ : List ℕ) (from : ℕ) (o p : List ℕ) (f fixed i : ℕ) → Settling w p₀ from o p f fixed i → length w ≤ i → Settled w p₀ from p
+settling-end w p₀ from o p f fixed i S h =
     record { plan = complete-plan w o p f (S .before .complete); same = S .same; least = λ x l g. S .least x l (omega (arith, S .high)) }
 
-module _ (w p₀ : List ℕ) (from : ℕ) (o p : List ℕ) (f keep i : ℕ) (S : Settling w p₀ from o p f keep i) (more : i < length w) where
-  pub settling-minimizable : {after : ℕ} → After w i after → Minimizable w o p f i after keep
+module _ (w p₀ : List ℕ) (from : ℕ) (o p : List ℕ) (f fixed i : ℕ) (S : Settling w p₀ from o p f fixed i) (more : i < length w) where
+  pub settling-minimizable : {after : ℕ} → After w i after → Minimizable w o p f i after fixed
   settling-minimizable A = record { before = S .before; known = more; later = A }
 
-  module _ (o′ p′ : List ℕ) (f′ k : ℕ) (H : Lowered w o i (getD w i 0) keep o′ p′ f′ k) where
-    P : Prefix w o p f i keep
+  module _ (o′ p′ : List ℕ) (f′ k : ℕ) (H : Lowered w o i (getD w i 0) fixed o′ p′ f′ k) where
+    P : Prefix w o p f i fixed
     P = S .before
 
     M′ : Matched o′ p′ f′ i
@@ -227,19 +227,19 @@ module _ (w p₀ : List ℕ) (from : ℕ) (o p : List ℕ) (f keep i : ℕ) (S :
     settling-slot = omega (arith, H .slot, M′ .slot)
 
     same′ : Same-to p′ p i
-    same′ = prefix-stays w o p f i keep P (S .high) o′ p′ f′ (H .complete) (H .keeps)
+    same′ = prefix-stays w o p f i fixed P (S .high) o′ p′ f′ (H .complete) (H .keeps)
 
-    pub settling-turn : (keep′ : ℕ) → keep′ ≡ with keep k → Settling w p₀ from o′ p′ f′ keep′ (i + 1)
-    settling-turn keep′ e =
+    pub settling-turn : (fixed′ : ℕ) → fixed′ ≡ with fixed k → Settling w p₀ from o′ p′ f′ fixed′ (i + 1)
+    settling-turn fixed′ e =
         record {
-          before = prefix-next w o p f i keep P more o′ p′ f′ k keep′ (H .complete) (H .slot) (H .keeps) e;
+          before = prefix-next w o p f i fixed P more o′ p′ f′ k fixed′ (H .complete) (H .slot) (H .keeps) e;
           low = omega (arith, S .low);
           high = omega arith;
           same = λ l h. same′ l (omega (arith, S .low)) ∙ S .same l h;
           least = λ x h g q Q A. same-or x i
               (λ z.
               let A′ : Same-to q p i = λ l m. A l (omega arith) ∙ same′ l m in
-              let r = H .least q Q (prefix-agrees w o p f i keep P q A′) (Q .open-cell i more) in
+              let r = H .least q Q (prefix-agrees w o p f i fixed P q A′) (Q .open-cell i more) in
               omega (arith, ap (at p′) z, ap (at q) z, H .slot))
               (λ d.
               let u : x < i = omega arith in

@@ -11,45 +11,45 @@ use Rattle.augment.specs.Table.{own, at, Complete}
 use Rattle.augment.specs.Search.{Within}
 use Rattle.augment.proofs.Bars.{Agrees}
 
--- the slots of keep are held by other items than x
-pub record Kept (w o p : List ℕ) (f x keep : ℕ) : Type 0 where
+-- the slots of `fixed` are held by other items than x
+pub record Fixed (w o p : List ℕ) (f x fixed : ℕ) : Type 0 where
   pub complete : Complete w o p f
   pub known : x < length w
-  pub held : (k : ℕ) → k < 64 → bit keep k ≡ 1 → bit f k ≡ 0
-  pub others : (k : ℕ) → k < 64 → bit keep k ≡ 1 → own o k ≢ x
+  pub held : (k : ℕ) → k < 64 → bit fixed k ≡ 1 → bit f k ≡ 0
+  pub others : (k : ℕ) → k < 64 → bit fixed k ≡ 1 → own o k ≢ x
 
 -- ---- shift
 
-pub record Shiftable (w o p : List ℕ) (f x cand keep : ℕ) : Type 0 where
-  pub kept : Kept w o p f x keep
+pub record Shiftable (w o p : List ℕ) (f x cand fixed : ℕ) : Type 0 where
+  pub fixed-held : Fixed w o p f x fixed
   pub cells : Within cand (getD w x 0)
-  pub apart : (k : ℕ) → k < 64 → bit cand k + bit keep k ≤ 1
+  pub apart : (k : ℕ) → k < 64 → bit cand k + bit fixed k ≤ 1
 
--- x holds slot k of cand, and the slots of keep have their holders
-pub record Shifted (w o : List ℕ) (x cand keep : ℕ) (o′ p′ : List ℕ) (f′ k : ℕ) : Type 0 where
+-- x holds slot k of cand, and the slots of `fixed` have their holders
+pub record Shifted (w o : List ℕ) (x cand fixed : ℕ) (o′ p′ : List ℕ) (f′ k : ℕ) : Type 0 where
   pub complete : Complete w o′ p′ f′
   pub slot : at p′ x ≡ k
   pub from : bit cand k ≡ 1
-  pub keeps : (l : ℕ) → l < 64 → bit keep l ≡ 1 → (bit f′ l ≡ 0) × (own o′ l ≡ own o l)
+  pub keeps : (l : ℕ) → l < 64 → bit fixed l ≡ 1 → (bit f′ l ≡ 0) × (own o′ l ≡ own o l)
 
--- no plan that leaves the slots of keep to their holders gives x a slot of cand
+-- no plan that leaves the slots of `fixed` to their holders gives x a slot of cand
 abbrev pub Stuck : List ℕ → List ℕ → ℕ → ℕ → ℕ → Type 0
-Stuck w o x cand keep = (q : List ℕ) → IsPlan w q → Agrees o keep q → bit cand (at q x) ≡ 0
+Stuck w o x cand fixed = (q : List ℕ) → IsPlan w q → Agrees o fixed q → bit cand (at q x) ≡ 0
 
 -- ---- lower
 
-pub record Lowerable (w o p : List ℕ) (f x may keep : ℕ) : Type 0 where
-  pub kept : Kept w o p f x keep
+pub record Lowerable (w o p : List ℕ) (f x may fixed : ℕ) : Type 0 where
+  pub fixed-held : Fixed w o p f x fixed
   pub cells : Within may (getD w x 0)
   pub has : bit may (at p x) ≡ 1
 
--- x holds slot k, the least of `may` that any plan gives it which leaves the slots of keep to their holders
-pub record Lowered (w o : List ℕ) (x may keep : ℕ) (o′ p′ : List ℕ) (f′ k : ℕ) : Type 0 where
+-- x holds slot k, the least of `may` that any plan gives it which leaves the slots of `fixed` to their holders
+pub record Lowered (w o : List ℕ) (x may fixed : ℕ) (o′ p′ : List ℕ) (f′ k : ℕ) : Type 0 where
   pub complete : Complete w o′ p′ f′
   pub slot : at p′ x ≡ k
   pub from : bit may k ≡ 1
-  pub keeps : (l : ℕ) → l < 64 → bit keep l ≡ 1 → (bit f′ l ≡ 0) × (own o′ l ≡ own o l)
-  pub least : (q : List ℕ) → IsPlan w q → Agrees o keep q → bit may (at q x) ≡ 1 → k ≤ at q x
+  pub keeps : (l : ℕ) → l < 64 → bit fixed l ≡ 1 → (bit f′ l ≡ 0) × (own o′ l ≡ own o l)
+  pub least : (q : List ℕ) → IsPlan w q → Agrees o fixed q → bit may (at q x) ≡ 1 → k ≤ at q x
 
 -- ---- minimize
 
@@ -61,22 +61,22 @@ After w x after = (y : ℕ) → x < y → y < length w → Within (getD w y 0) a
 abbrev pub Later : List ℕ → ℕ → List ℕ → Type 0
 Later w from table = (x : ℕ) → from ≤ x → x < length w → After w x (getD table x 0)
 
--- keep are the slots of the items before x
-pub record Prefix (w o p : List ℕ) (f x keep : ℕ) : Type 0 where
+-- `fixed` are the slots of the items before x
+pub record Prefix (w o p : List ℕ) (f x fixed : ℕ) : Type 0 where
   pub complete : Complete w o p f
-  pub held : (k : ℕ) → k < 64 → bit keep k ≡ 1 → bit f k ≡ 0
-  pub only : (k : ℕ) → k < 64 → bit keep k ≡ 1 → own o k < x
-  pub all : (k : ℕ) → k < 64 → bit f k ≡ 0 → own o k < x → bit keep k ≡ 1
+  pub held : (k : ℕ) → k < 64 → bit fixed k ≡ 1 → bit f k ≡ 0
+  pub only : (k : ℕ) → k < 64 → bit fixed k ≡ 1 → own o k < x
+  pub all : (k : ℕ) → k < 64 → bit f k ≡ 0 → own o k < x → bit fixed k ≡ 1
 
-pub record Minimizable (w o p : List ℕ) (f x after keep : ℕ) : Type 0 where
-  pub before : Prefix w o p f x keep
+pub record Minimizable (w o p : List ℕ) (f x after fixed : ℕ) : Type 0 where
+  pub before : Prefix w o p f x fixed
   pub known : x < length w
   pub later : After w x after
 
 -- ---- settle
 
-pub record Settleable (w o p : List ℕ) (f from keep : ℕ) : Type 0 where
-  pub before : Prefix w o p f from keep
+pub record Settleable (w o p : List ℕ) (f from fixed : ℕ) : Type 0 where
+  pub before : Prefix w o p f from fixed
   pub within : from ≤ length w
 
 -- q and r give the items before x the same slots

@@ -13,7 +13,7 @@ use augment::Found;
 use model::Plan;
 use model::PlanAnswer;
 
-// Item x moves to a slot of `cand` if that is possible with the slots of `keep` left to their holders.
+// Item x moves to a slot of `cand` if that is possible with the slots of `fixed` left to their holders.
 pub fn shift(
     opens: &[u64],
     owner: &mut [u8; 64],
@@ -21,17 +21,17 @@ pub fn shift(
     free: u64,
     x: usize,
     cand: u64,
-    keep: u64,
+    fixed: u64,
 ) -> Found
-    requires { ⌜ Shiftable (now opens) (now owner) (now slot) free x cand keep ⌝ }
-    ensures found { λ r. ⌜ (r .at ≢ 64 → Shifted (now (opens .entry)) (now (owner .entry)) x cand keep (now (owner .exit)) (now (slot .exit)) (r .word) (r .at)) ⌝ }
-    ensures none { λ r. ⌜ (r .at ≡ 64 → Same (now (owner .entry)) (now (slot .entry)) (now (owner .exit)) (now (slot .exit)) × Stuck (now (opens .entry)) (now (owner .entry)) x cand keep) ⌝ }
+    requires { ⌜ Shiftable (now opens) (now owner) (now slot) free x cand fixed ⌝ }
+    ensures found { λ r. ⌜ (r .at ≢ 64 → Shifted (now (opens .entry)) (now (owner .entry)) x cand fixed (now (owner .exit)) (now (slot .exit)) (r .word) (r .at)) ⌝ }
+    ensures none { λ r. ⌜ (r .at ≡ 64 → Same (now (owner .entry)) (now (slot .entry)) (now (owner .exit)) (now (slot .exit)) × Stuck (now (opens .entry)) (now (owner .entry)) x cand fixed) ⌝ }
 {
     let s = words::wide(slot[x]);
-    augment::assign(opens, owner, slot, words::with(free, s), x, cand, keep)
+    augment::assign(opens, owner, slot, words::with(free, s), x, cand, fixed)
 }
 
-// Item x, which holds a slot of `may`, moves to the least of these that leaves the slots of `keep` to their holders.
+// Item x, which holds a slot of `may`, moves to the least of these that leaves the slots of `fixed` to their holders.
 pub fn lower(
     opens: &[u64],
     owner: &mut [u8; 64],
@@ -39,12 +39,12 @@ pub fn lower(
     free: u64,
     x: usize,
     may: u64,
-    keep: u64,
+    fixed: u64,
 ) -> Found
-    requires { ⌜ Lowerable (now opens) (now owner) (now slot) free x may keep ⌝ }
-    ensures { λ r. ⌜ Lowered (now (opens .entry)) (now (owner .entry)) x may keep (now (owner .exit)) (now (slot .exit)) (r .word) (r .at) ⌝ }
+    requires { ⌜ Lowerable (now opens) (now owner) (now slot) free x may fixed ⌝ }
+    ensures { λ r. ⌜ Lowered (now (opens .entry)) (now (owner .entry)) x may fixed (now (owner .exit)) (now (slot .exit)) (r .word) (r .at) ⌝ }
 {
-    let all = words::minus(may, keep);
+    let all = words::minus(may, fixed);
     let mut f = free;
     let mut s = words::wide(slot[x]);
     while s != 0 {
@@ -52,7 +52,7 @@ pub fn lower(
         if cand == 0 {
             return Found { at: s, word: f };
         }
-        let r = shift(opens, owner, slot, f, x, cand, keep);
+        let r = shift(opens, owner, slot, f, x, cand, fixed);
         if r.at == 64 {
             return Found { at: s, word: f };
         }
@@ -93,41 +93,41 @@ pub fn minimize(
     free: u64,
     x: usize,
     after: u64,
-    keep: u64,
+    fixed: u64,
 ) -> Found
-    requires { ⌜ Minimizable (now opens) (now owner) (now slot) free x after keep ⌝ }
-    ensures { λ r. ⌜ Lowered (now (opens .entry)) (now (owner .entry)) x (getD (now (opens .entry)) x 0) keep (now (owner .exit)) (now (slot .exit)) (r .word) (r .at) ⌝ }
+    requires { ⌜ Minimizable (now opens) (now owner) (now slot) free x after fixed ⌝ }
+    ensures { λ r. ⌜ Lowered (now (opens .entry)) (now (owner .entry)) x (getD (now (opens .entry)) x 0) fixed (now (owner .exit)) (now (slot .exit)) (r .word) (r .at) ⌝ }
 {
     let s = words::wide(slot[x]);
     let word = opens[x];
     if can_leave(s, word, after, free) == 0 {
         return Found { at: s, word: free };
     }
-    lower(opens, owner, slot, free, x, word, keep)
+    lower(opens, owner, slot, free, x, word, fixed)
 }
 
-// The items from `from` on get, one after the other, their least slots; `keep` are the slots of the items before.
+// The items from `from` on get, one after the other, their least slots; `fixed` are the slots of the items before.
 pub fn settle(
     opens: &[u64],
     owner: &mut [u8; 64],
     slot: &mut [u8; 64],
     free: u64,
     from: usize,
-    keep: u64,
+    fixed: u64,
 )
-    requires { ⌜ Settleable (now opens) (now owner) (now slot) free from keep ⌝ }
+    requires { ⌜ Settleable (now opens) (now owner) (now slot) free from fixed ⌝ }
     ensures { λ _. ⌜ Settled (now (opens .entry)) (now (slot .entry)) from (now (slot .exit)) ⌝ }
 {
     let mut table = [0u64; 64];
     later(opens, from, &mut table);
     let mut f = free;
-    let mut kept = keep;
+    let mut fixed_now = fixed;
     let mut i = from;
     while i < opens.len() {
         let after = table[i];
-        let r = minimize(opens, owner, slot, f, i, after, kept);
+        let r = minimize(opens, owner, slot, f, i, after, fixed_now);
         f = r.word;
-        kept = words::with(kept, r.at);
+        fixed_now = words::with(fixed_now, r.at);
         i += 1;
     }
 }

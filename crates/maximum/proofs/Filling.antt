@@ -145,12 +145,12 @@ module _ (w : List ℕ) (wanting : ℕ) (o p : List ℕ) (f e d left x rest cand
             held = B .held;
             shut = λ k h b. same-or (bit d k) 0
                 (λ z. B .shut k h b z)
-                (λ n l g. le-trans (F .dead .shut k h (omega (arith, bit-lt d k)) l g) (B .kept l g));
+                (λ n l g. le-trans (F .dead .shut k h (omega (arith, bit-lt d k)) l g) (B .has-fixed l g));
             all = λ y h b. same-or y x
-                (λ q l g. omega (arith, ap (λ z. bit (getD w z 0) l) q, in-cand l g, B .all l g, B .kept l g, bit-lt (getD w x 0) l, bit-lt d l))
-                (λ n l g. le-trans (F .dead .all y h (sym (bit-with-other e x y n) ∙ sym (ew y) ∙ b) l g) (B .kept l g));
+                (λ q l g. omega (arith, ap (λ z. bit (getD w z 0) l) q, in-cand l g, B .all l g, B .has-fixed l g, bit-lt (getD w x 0) l, bit-lt d l))
+                (λ n l g. le-trans (F .dead .all y h (sym (bit-with-other e x y n) ∙ sym (ew y) ∙ b) l g) (B .has-fixed l g));
             least = λ g s c.
-                let dg = F .dead .least g (λ y h b. s y h (omega (arith, old y, bit-lt e′ y))) (λ k h b q. c k h b (omega (arith, B .kept k h, bit-lt t k))) in
+                let dg = F .dead .least g (λ y h b. s y h (omega (arith, old y, bit-lt e′ y))) (λ k h b q. c k h b (omega (arith, B .has-fixed k h, bit-lt t k))) in
                 B .least g dg (λ k h. le-trans (filling-assignable .may k h) (s x filling-item (ew x ∙ bit-with e x) k h)) (λ k h b q z. c k h b q);
           };
         }
@@ -160,7 +160,7 @@ module _ (w : List ℕ) (wanting : ℕ) (o p : List ℕ) (f e d left x rest cand
     filling-none e′ z ee =
         stays d e′ (F .dead .fits) ee
         (record {
-          kept = λ k h. omega arith;
+          has-fixed = λ k h. omega arith;
           all = λ k h. omega (arith, ap (λ y. bit y k) z, bit-empty k);
           held = F .dead .held;
           shut = λ k h b n. absurd (omega arith);

@@ -27,32 +27,32 @@ use Rattle.least.proofs.Firsts.{settled-before}
 use Rattle.next.specs.Next.{above}
 use Rattle.next.proofs.ItemAdvances.{above-high, above-low}
 
-pub record Advancing (w g o p : List ℕ) (f keep after i : ℕ) : Type 0 where
+pub record Advancing (w g o p : List ℕ) (f fixed after i : ℕ) : Type 0 where
   pub slots : p ≡ g
-  pub before : Prefix w o g f i keep
+  pub before : Prefix w o g f i fixed
   pub within : i ≤ length w
   pub later : (y : ℕ) → i ≤ y → y < length w → Within (getD w y 0) after
   pub stuck : (x : ℕ) → i ≤ x → x < length w → (q : List ℕ) → IsPlan w q → Same-to q g x → at q x ≤ at g x
 
-pub advancing-start : (w g o : List ℕ) (f keep a : ℕ) → f < 2 ^ 64 → Complete w o g f → a ≡ low 64 → keep ≡ minus a f → Advancing w g o g f keep 0 (length w)
-advancing-start w g o f keep a fits C ea ek =
-    let in-keep : (k : ℕ) → k < 64 → bit keep k ≡ 1 - bit f k = λ k h.
+pub advancing-start : (w g o : List ℕ) (f fixed a : ℕ) → f < 2 ^ 64 → Complete w o g f → a ≡ low 64 → fixed ≡ minus a f → Advancing w g o g f fixed 0 (length w)
+advancing-start w g o f fixed a fits C ea ek =
+    let in-fixed : (k : ℕ) → k < 64 → bit fixed k ≡ 1 - bit f k = λ k h.
     ap (λ v. bit v k) ek ∙ bit-minus a f k fits h ∙ omega (arith, ap (λ v. bit v k) ea, bit-low 64 k h, bit-lt f k) in
     record {
       slots = refl;
       before = record {
         complete = C;
-        held = λ k h b. omega (arith, in-keep k h, bit-lt f k);
-        only = λ k h b. C .table .item k h (omega (arith, in-keep k h, bit-lt f k));
-        all = λ k h b l. omega (arith, in-keep k h);
+        held = λ k h b. omega (arith, in-fixed k h, bit-lt f k);
+        only = λ k h b. C .table .item k h (omega (arith, in-fixed k h, bit-lt f k));
+        all = λ k h b l. omega (arith, in-fixed k h);
       };
       within = omega arith;
       later = λ y h g. absurd (omega arith);
       stuck = λ x h g. absurd (omega arith);
     }
 
--- a turn: item x, s its slot, keep′ the slots of the items before it
-module _ (w g o p : List ℕ) (f keep after i x s keep′ : ℕ) (A : Advancing w g o p f keep after i) (ex : x + 1 ≡ i) (es : s ≡ at g x) (ek : keep′ ≡ without keep s) where
+-- a turn: item x, s its slot, fixed′ the slots of the items before it
+module _ (w g o p : List ℕ) (f fixed after i x s fixed′ : ℕ) (A : Advancing w g o p f fixed after i) (ex : x + 1 ≡ i) (es : s ≡ at g x) (ek : fixed′ ≡ without fixed s) where
   known : x < length w
   known = omega (arith, A .within)
 
@@ -62,27 +62,27 @@ module _ (w g o p : List ℕ) (f keep after i x s keep′ : ℕ) (A : Advancing 
   pub advancing-slot : s < 64
   advancing-slot = rw es (C .all x known .slot)
 
-  prefix : Prefix w o g f x keep′
+  prefix : Prefix w o g f x fixed′
   prefix =
-      rw (ek ∙ ap (without keep) es)
+      rw (ek ∙ ap (without fixed) es)
       (record {
         complete = C;
-        held = λ k h b. A .before .held k h (omega (arith, bit-without-le keep (at g x) k, bit-lt keep k));
+        held = λ k h b. A .before .held k h (omega (arith, bit-without-le fixed (at g x) k, bit-lt fixed k));
         only = λ k h b.
-            let d : k ≢ at g x = λ e. omega (arith, ap (bit (without keep (at g x))) e, bit-without keep (at g x)) in
-            let c = sym (bit-without-other keep (at g x) k d) ∙ b in
+            let d : k ≢ at g x = λ e. omega (arith, ap (bit (without fixed (at g x))) e, bit-without fixed (at g x)) in
+            let c = sym (bit-without-other fixed (at g x) k d) ∙ b in
             let n : own o k ≢ x = λ e. d (sym (C .table .back k h (A .before .held k h c)) ∙ ap (at g) e) in
             omega (arith, A .before .only k h c);
         all = λ k h b l.
             let d : k ≢ at g x = λ e. omega (arith, ap (own o) e, C .all x known .owns) in
-            bit-without-other keep (at g x) k d ∙ A .before .all k h b (omega arith);
+            bit-without-other fixed (at g x) k d ∙ A .before .all k h b (omega arith);
       })
 
-  pub advancing-minimizable : Minimizable w o p f x after keep′
+  pub advancing-minimizable : Minimizable w o p f x after fixed′
   advancing-minimizable = rw (A .slots) (record { before = prefix; known = known; later = λ y h l. A .later y (omega arith) l })
 
   -- x can't advance
-  pub advancing-stuck : (o′ p′ : List ℕ) → Same o p o′ p′ × Stuck w o x (above w p x) keep′ → Advancing w g o′ p′ f keep′ (bitOr after (getD w x 0)) x
+  pub advancing-stuck : (o′ p′ : List ℕ) → Same o p o′ p′ × Stuck w o x (above w p x) fixed′ → Advancing w g o′ p′ f fixed′ (bitOr after (getD w x 0)) x
   advancing-stuck o′ p′ r =
       rw (r .0 .owner)
       (record {
@@ -103,22 +103,22 @@ module _ (w g o p : List ℕ) (f keep after i x s keep′ : ℕ) (A : Advancing 
           let h = slot-lt w o g f (C .table) q Q x known in
           absurd (omega (
             arith,
-            (rw (A .slots) at (r .1)) q Q (prefix-agrees w o g f x keep′ prefix q S),
+            (rw (A .slots) at (r .1)) q Q (prefix-agrees w o g f x fixed′ prefix q S),
             above-high w g x (C .all x known .slot) (at q x) h l,
             Q .open-cell x known,
           ))
 
   -- x has advanced to k
-  module _ (o′ p′ : List ℕ) (f′ k : ℕ) (L : Lowered w o x (above w p x) keep′ o′ p′ f′ k) where
-    M : Lowered w o x (above w g x) keep′ o′ p′ f′ k
+  module _ (o′ p′ : List ℕ) (f′ k : ℕ) (L : Lowered w o x (above w p x) fixed′ o′ p′ f′ k) where
+    M : Lowered w o x (above w g x) fixed′ o′ p′ f′ k
     M = rw (A .slots) at L
 
     pub advancing-below : k < 64
     advancing-below = omega (arith, M .slot, M .complete .all x known .slot)
 
-    pub advancing-settleable : (keep₂ : ℕ) → keep₂ ≡ with keep′ k → Settleable w o′ p′ f′ (x + 1) keep₂
-    advancing-settleable keep₂ e =
-        record { before = prefix-next w o g f x keep′ prefix known o′ p′ f′ k keep₂ (M .complete) (M .slot) (M .keeps) e; within = omega arith }
+    pub advancing-settleable : (fixed₂ : ℕ) → fixed₂ ≡ with fixed′ k → Settleable w o′ p′ f′ (x + 1) fixed₂
+    advancing-settleable fixed₂ e =
+        record { before = prefix-next w o g f x fixed′ prefix known o′ p′ f′ k fixed₂ (M .complete) (M .slot) (M .keeps) e; within = omega arith }
 
     advanced : at g x < k
     advanced = go (decLt (at g x) k)
@@ -130,7 +130,7 @@ module _ (w g o p : List ℕ) (f keep after i x s keep′ : ℕ) (A : Advancing 
     -- and the items after it are settled
     module _ (r : List ℕ) (S : Settled w p′ (x + 1) r) where
       same : Same-to r g x
-      same l h = S .same l (omega arith) ∙ prefix-stays w o g f x keep′ prefix (omega (arith, known)) o′ p′ f′ (M .complete) (M .keeps) l h
+      same l h = S .same l (omega arith) ∙ prefix-stays w o g f x fixed′ prefix (omega (arith, known)) o′ p′ f′ (M .complete) (M .keeps) l h
 
       here : at r x ≡ k
       here = S .same x (omega arith) ∙ M .slot
@@ -154,7 +154,7 @@ module _ (w g o p : List ℕ) (f keep after i x s keep′ : ℕ) (A : Advancing 
           at-x s l =
               let h = slot-lt w o g f (C .table) q Q x known in
               let b = above-high w g x (C .all x known .slot) (at q x) h l ∙ Q .open-cell x known in
-              let up = M .least q Q (prefix-agrees w o g f x keep′ prefix q s) b in
+              let up = M .least q Q (prefix-agrees w o g f x fixed′ prefix q s) b in
               same-or (at q x) k
               (λ e.
               settled-before w p′ (x + 1) r S q Q (λ m n. same-or m x
@@ -180,8 +180,8 @@ module _ (w g o p : List ℕ) (f keep after i x s keep′ : ℕ) (A : Advancing 
 
 -- ---- no item can
 
-pub advancing-end : (w g o p : List ℕ) (f keep after i : ℕ) → Advancing w g o p f keep after i → i ≡ 0 → refused 10 ≡ nextOf (plansAfter 64 w g)
-advancing-end w g o p f keep after i A z =
+pub advancing-end : (w g o p : List ℕ) (f fixed after i : ℕ) → Advancing w g o p f fixed after i → i ≡ 0 → refused 10 ≡ nextOf (plansAfter 64 w g)
+advancing-end w g o p f fixed after i A z =
     let C = A .before .complete in
     sym (next-of-none 64 w (C .table .few) (C .table .range) g (λ q Q b.
     let d = before-place g q (C .table .slots ∙ sym (Q .sized)) b in

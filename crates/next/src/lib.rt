@@ -81,11 +81,11 @@ pub fn advance_item(
     free: u64,
     x: usize,
     after: u64,
-    keep: u64,
+    fixed: u64,
 ) -> Found
-    requires { ⌜ Minimizable (now opens) (now owner) (now slot) free x after keep ⌝ }
-    ensures found { λ r. ⌜ (r .at ≢ 64 → Lowered (now (opens .entry)) (now (owner .entry)) x (above (now (opens .entry)) (now (slot .entry)) x) keep (now (owner .exit)) (now (slot .exit)) (r .word) (r .at)) ⌝ }
-    ensures none { λ r. ⌜ (r .at ≡ 64 → Same (now (owner .entry)) (now (slot .entry)) (now (owner .exit)) (now (slot .exit)) × Stuck (now (opens .entry)) (now (owner .entry)) x (above (now (opens .entry)) (now (slot .entry)) x) keep) ⌝ }
+    requires { ⌜ Minimizable (now opens) (now owner) (now slot) free x after fixed ⌝ }
+    ensures found { λ r. ⌜ (r .at ≢ 64 → Lowered (now (opens .entry)) (now (owner .entry)) x (above (now (opens .entry)) (now (slot .entry)) x) fixed (now (owner .exit)) (now (slot .exit)) (r .word) (r .at)) ⌝ }
+    ensures none { λ r. ⌜ (r .at ≡ 64 → Same (now (owner .entry)) (now (slot .entry)) (now (owner .exit)) (now (slot .exit)) × Stuck (now (opens .entry)) (now (owner .entry)) x (above (now (opens .entry)) (now (slot .entry)) x) fixed) ⌝ }
 {
     let s = words::wide(slot[x]);
     let word = opens[x];
@@ -93,15 +93,15 @@ pub fn advance_item(
         return Found { at: 64, word: free };
     }
     let may = words::minus(word, words::low(s + 1));
-    let cand = words::minus(may, keep);
+    let cand = words::minus(may, fixed);
     if cand == 0 {
         return Found { at: 64, word: free };
     }
-    let r = least::shift(opens, owner, slot, free, x, cand, keep);
+    let r = least::shift(opens, owner, slot, free, x, cand, fixed);
     if r.at == 64 {
         return r;
     }
-    least::lower(opens, owner, slot, r.word, x, may, keep)
+    least::lower(opens, owner, slot, r.word, x, may, fixed)
 }
 
 // The plan after the one that a complete table holds; 10 where none follows. From the last item on, the first that can advance does,
@@ -111,13 +111,13 @@ pub fn advance(opens: &[u64], plan: [u8; 64], owner: &mut [u8; 64], free: u64) -
     ensures { λ r. ⌜ r ≡ nextOf (plansAfter 64 (now (opens .entry)) plan) ⌝ }
 {
     let mut slot = plan;
-    let mut keep = words::minus(words::low(64), free);
+    let mut fixed = words::minus(words::low(64), free);
     let mut after: u64 = 0;
     let mut i = opens.len();
     while i > 0 {
         i -= 1;
-        keep = words::without(keep, words::wide(plan[i]));
-        let r = advance_item(opens, owner, &mut slot, free, i, after, keep);
+        fixed = words::without(fixed, words::wide(plan[i]));
+        let r = advance_item(opens, owner, &mut slot, free, i, after, fixed);
         if r.at != 64 {
             least::settle(
                 opens,
@@ -125,7 +125,7 @@ pub fn advance(opens: &[u64], plan: [u8; 64], owner: &mut [u8; 64], free: u64) -
                 &mut slot,
                 r.word,
                 i + 1,
-                words::with(keep, r.at),
+                words::with(fixed, r.at),
             );
             return PlanAnswer {
                 code: 0,

@@ -8,10 +8,10 @@ use Rattle.least.proofs.lower.Statement.{statement}
 use Rattle.least.proofs.lower.Tie as tie
 
 abbrev Inv-loop : tie.InvT-loop
-Inv-loop opens owner₀ slot₀ free x may keep all f₀ s₀ owner slot f s = Lowering opens x may keep owner₀ owner slot f s
+Inv-loop opens owner₀ slot₀ free x may fixed all f₀ s₀ owner slot f s = Lowering opens x may fixed owner₀ owner slot f s
 
 abbrev μ-loop : tie.MeasureT-loop
-μ-loop opens owner₀ slot₀ free x may keep all f₀ s₀ owner slot f s = s
+μ-loop opens owner₀ slot₀ free x may fixed all f₀ s₀ owner slot f s = s
 
 abbrev start : (c : tie.At-loop Inv-loop μ-loop) → tie.Start Inv-loop μ-loop
 start c = c .before .before .before .before .before
@@ -52,7 +52,7 @@ returns-2 c =
 
 turned : (c : tie.Else2 Inv-loop μ-loop)
     → let l = c .before .before .before .before .before .before .before .before in let r = c .before .before .shift in let a = start l .args in
-    (r .result .at < l .loop .s) × Lowering (a .opens .now) (a .x) (a .may) (a .keep) (a .owner .now) (r .last .1 .0) (r .last .1 .1 .0) (r .result .word) (r .result .at)
+    (r .result .at < l .loop .s) × Lowering (a .opens .now) (a .x) (a .may) (a .fixed) (a .owner .now) (r .last .1 .0) (r .last .1 .1 .0) (r .result .word) (r .result .at)
 turned c =
     let l = c .before .before .before .before .before .before .before .before in
     lowering-turn _ _ _ _ _ _ _ (start l .pre) _ _ _ _ (l .loop .inv) _ _ _ (search needs) (l .before .before .before .minus .ensures) (c .before .before .before .before .before .before .low .ensures)

@@ -8,10 +8,10 @@ use Rattle.least.proofs.settle.Statement.{statement}
 use Rattle.least.proofs.settle.Tie as tie
 
 abbrev Inv-loop : tie.InvT-loop
-Inv-loop opens owner₀ slot₀ free from keep table f₀ kept₀ i₀ owner slot f kept i = Settling opens slot₀ from owner slot f kept i
+Inv-loop opens owner₀ slot₀ free from fixed table f₀ fixed-now₀ i₀ owner slot f fixed-now i = Settling opens slot₀ from owner slot f fixed-now i
 
 abbrev μ-loop : tie.MeasureT-loop
-μ-loop opens owner₀ slot₀ free from keep table f₀ kept₀ i₀ owner slot f kept i = length opens - i
+μ-loop opens owner₀ slot₀ free from fixed table f₀ fixed-now₀ i₀ owner slot f fixed-now i = length opens - i
 
 later-requires : tie.Need-later-requires Inv-loop μ-loop
 later-requires c κs = (c .before .before .pre .before .complete .table .few, refl)

@@ -7,10 +7,10 @@ use Rattle.next.proofs.advance.Statement.{statement}
 use Rattle.next.proofs.advance.Tie as tie
 
 abbrev Inv-loop : tie.InvT-loop
-Inv-loop opens owner₀ free plan slot₀ keep₀ after₀ i₀ owner slot keep after i = Advancing opens plan owner slot free keep after i
+Inv-loop opens owner₀ free plan slot₀ fixed₀ after₀ i₀ owner slot fixed after i = Advancing opens plan owner slot free fixed after i
 
 abbrev μ-loop : tie.MeasureT-loop
-μ-loop opens owner₀ free plan slot₀ keep₀ after₀ i₀ owner slot keep after i = i
+μ-loop opens owner₀ free plan slot₀ fixed₀ after₀ i₀ owner slot fixed after i = i
 
 low-requires : tie.Need-low-requires Inv-loop μ-loop
 low-requires c κs = omega arith
