@@ -1,2 +1,2 @@
-pub mod Turn
-pub mod Filling
+pub mod Summing
+pub mod Upward

@@ -1,1 +1,1 @@
-pub mod Word
+pub mod SubsetWord

@@ -3,12 +3,12 @@ use Prim.Native.Nat.{_-_}
 use native.Mathlib.Omega.{arith}
 use borrow.Author.Needs.{needs}
 use lib.ListN.{length-set}
-use Rattle.permanent.proofs.Filling.{Filling, start, length-counts, below, known, more, finish}
+use Rattle.permanent.proofs.Upward.{Upward, start, length-counts, below, known, more, finish}
 use Rattle.permanent.proofs.count_subsets.Statement.{statement}
 use Rattle.permanent.proofs.count_subsets.Tie as tie
 
 abbrev Inv-loop : tie.InvT-loop
-Inv-loop opens counts₀ last set₀ ways₀ counts set ways = Filling opens counts₀ counts last set ways
+Inv-loop opens counts₀ last set₀ ways₀ counts set ways = Upward opens counts₀ counts last set ways
 
 abbrev μ-loop : tie.MeasureT-loop
 μ-loop opens counts₀ last set₀ ways₀ counts set ways = last - set

@@ -3,7 +3,7 @@ use mathlib.Core.Path.{ap, _∙_}
 use native.Mathlib.Omega.{arith}
 use borrow.Author.Needs.{needs}
 use Rattle.words.specs.Word.{without}
-use Rattle.permanent.proofs.Turn.{Partial, Turn, size, start, slot-lt, turn, finish}
+use Rattle.permanent.proofs.Summing.{Partial, Summing, size, start, slot-lt, summing-turn, finish}
 use Rattle.permanent.proofs.subset_count.Statement.{statement}
 use Rattle.permanent.proofs.subset_count.Tie as tie
 
@@ -19,10 +19,10 @@ entry c = c .before .before .before .before .before
 
 turn-at : (c : tie.After-without Inv-loop μ-loop)
     → let head = c .before .before .before in let args = entry head .args in
-    Turn (args .opens .now) (args .counts .now) (args .set) (head .loop .left) (head .loop .ways) (c .without .result)
+    Summing (args .opens .now) (args .counts .now) (args .set) (head .loop .left) (head .loop .ways) (c .without .result)
 turn-at c =
     let head = c .before .before .before in
-    turn (entry head .pre) (head .loop .inv) (c .before .before .loop-test .taken) (c .without .ensures ∙ ap (without _) (c .before .lowest .ensures))
+    summing-turn (entry head .pre) (head .loop .inv) (c .before .before .loop-test .taken) (c .without .ensures ∙ ap (without _) (c .before .lowest .ensures))
 
 size-requires : tie.Need-size-requires Inv-loop μ-loop
 size-requires c κs = search needs

@@ -14,7 +14,7 @@ use Rattle.words.specs.Sum.{sum}
 use Rattle.words.proofs.Bits.{bit-lt, bit-and, bit-one-lt, without-le, without-less}
 use Rattle.words.proofs.Sets.{ones-none, sum-empty, sum-and, sum-without, bit-without-le, lowest-lt, bit-lowest}
 use Rattle.model.proofs.Subsets.{subset-step, subset-fits}
-use Rattle.permanent.specs.Word.{word, Known}
+use Rattle.permanent.specs.SubsetWord.{word, Known}
 
 -- the slots of `left`, a part of `set`, are still to be added to `ways`
 pub record Partial (opens : List ℕ) (set left ways : ℕ) : Type 0 where
@@ -23,7 +23,7 @@ pub record Partial (opens : List ℕ) (set left ways : ℕ) : Type 0 where
   pub whole : ways + sum (λ j. bit left j * word opens (without set j)) (length opens) ≡ word opens set
 
 -- a turn takes the lowest slot of `left` and adds the word at `at`; 20! is the bound
-pub record Turn (opens counts : List ℕ) (set left ways at : ℕ) : Type 0 where
+pub record Summing (opens counts : List ℕ) (set left ways at : ℕ) : Type 0 where
   pub below : at < set
   pub fits : ways + getD counts at 0 ≤ 2432902008176640000
   pub less : without left (lowest left) < left
@@ -52,8 +52,8 @@ module _ {opens counts : List ℕ} {set : ℕ} (known : Known opens counts set) 
     pub slot-lt : lowest left < 64
     slot-lt = lowest-lt left some wide
 
-    pub turn : {at : ℕ} → at ≡ without set (lowest left) → Turn opens counts set left ways at
-    turn {at} e =
+    pub summing-turn : {at : ℕ} → at ≡ without set (lowest left) → Summing opens counts set left ways at
+    summing-turn {at} e =
         let n = length opens in
         let j = lowest left in
         let own : bit left j ≡ 1 = bit-lowest left some wide in

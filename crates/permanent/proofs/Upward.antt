@@ -13,7 +13,7 @@ use Rattle.words.proofs.Sums.{map-below, length-map-below}
 use Rattle.model.specs.Count.{count, subsetCounts}
 use Rattle.model.specs.Answers.{written}
 use Rattle.model.proofs.Subsets.{subset-empty, subset-last}
-use Rattle.permanent.specs.Word.{word, Known}
+use Rattle.permanent.specs.SubsetWord.{word, Known}
 
 abbrev table : List ℕ → List ℕ
 table opens = subsetCounts (length opens) opens
@@ -27,7 +27,7 @@ unfolding subsetCounts
 table-at opens i l = map-below (word opens) 0 (2 ^ length opens) i l
 
 -- the words below s are written, the further ones are as they were, and `ways` is the word of s
-pub record Filling (opens old counts : List ℕ) (last s ways : ℕ) : Type 0 where
+pub record Upward (opens old counts : List ℕ) (last s ways : ℕ) : Type 0 where
   pub sizes : (length opens ≤ 20) × (2 ^ length opens ≤ length old)
   pub end : last ≡ low (length opens)
   pub within : s ≤ last
@@ -35,7 +35,7 @@ pub record Filling (opens old counts : List ℕ) (last s ways : ℕ) : Type 0 wh
   pub next : ways ≡ word opens s
 
 pub start : {opens old : List ℕ} {last : ℕ} → (length opens ≤ 20) × (2 ^ length opens ≤ length old) → last ≡ low (length opens)
-    → Filling opens old old last 0 1
+    → Upward opens old old last 0 1
 start {opens} {old} h e = record {
   sizes = h;
   end = e;
@@ -44,7 +44,7 @@ start {opens} {old} h e = record {
   next = sym (subset-empty (length opens) opens);
 }
 
-module _ {opens old counts : List ℕ} {last s ways : ℕ} (f : Filling opens old counts last s ways) where
+module _ {opens old counts : List ℕ} {last s ways : ℕ} (f : Upward opens old counts last s ways) where
   -- within the table and within the memory
   inside : (s < 2 ^ length opens) × (s < length (table opens)) × (s < length old)
   inside =
@@ -75,7 +75,7 @@ module _ {opens old counts : List ℕ} {last s ways : ℕ} (f : Filling opens ol
         rw (stored, List·getD-append, getD-take) (table-at opens i (omega (arith, inside)));
   }
 
-  pub more : s < last → {v : ℕ} → v ≡ word opens (s + 1) → Filling opens old (set counts s ways) last (s + 1) v
+  pub more : s < last → {v : ℕ} → v ≡ word opens (s + 1) → Upward opens old (set counts s ways) last (s + 1) v
   more l e = record {
     sizes = f .sizes;
     end = f .end;
