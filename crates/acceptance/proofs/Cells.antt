@@ -29,16 +29,16 @@ module _ (m : ℕ) (opens callouts : List ℕ) where
   beyondIn = any (λ w. leb (2 ^ m) w)
 
   -- after i items: open bits from slot m on, callout bits where the cell is not open
-  pub record Gathered (beyond closed i : ℕ) : Type 0 where
+  pub record Faults (beyond closed i : ℕ) : Type 0 where
     pub within : i ≤ length opens
     pub high : any (λ w. leb (2 ^ m) w) opens ≡ (not (eqb beyond 0) || any (λ w. leb (2 ^ m) w) (drop i opens))
     pub stray : strayCallout opens callouts ≡ (not (eqb closed 0) || strayCallout (drop i opens) (drop i callouts))
 
-  module _ (same : length callouts ≡ length opens) (beyond closed i : ℕ) (g : Gathered beyond closed i) where
-    pub gather-more : m ≤ 64 → i < length opens → getD opens i 0 < 2 ^ 64
-        → Gathered (bitOr beyond (minus (getD opens i 0) (low m))) (bitOr closed (minus (getD callouts i 0) (getD opens i 0))) (i + 1)
+  module _ (same : length callouts ≡ length opens) (beyond closed i : ℕ) (g : Faults beyond closed i) where
+    pub faults-more : m ≤ 64 → i < length opens → getD opens i 0 < 2 ^ 64
+        → Faults (bitOr beyond (minus (getD opens i 0) (low m))) (bitOr closed (minus (getD callouts i 0) (getD opens i 0))) (i + 1)
     unfolding any strayCallout
-    gather-more few h l =
+    faults-more few h l =
         let w = getD opens i 0 in
         let c = getD callouts i 0 in
         let d = drop-cons opens i 0 h in
@@ -50,9 +50,9 @@ module _ (m : ℕ) (opens callouts : List ℕ) where
               (gathered closed (minus c w) _ _ (not (eqb (minus c w) 0)) _ (ap₂ strayCallout d (drop-cons callouts i 0 (omega arith))) refl (g .stray));
         }
 
-    pub gather-done : i ≡ length opens → (r : ℕ) → r ≡ cond (eqb beyond 0) (cond (eqb closed 0) 0 4) 3 → r ≡ cellCode m opens callouts
+    pub faults-done : i ≡ length opens → (r : ℕ) → r ≡ cond (eqb beyond 0) (cond (eqb closed 0) 0 4) 3 → r ≡ cellCode m opens callouts
     unfolding cellCode any strayCallout
-    gather-done e r q =
+    faults-done e r q =
         let none : drop i opens ≡ [] = drop-of-length-le opens {i = i} (omega arith) in
         q ∙ in-order (eqb beyond 0) (eqb closed 0)
         ∙ sym (ap₂ (λ a b. cond a 3 (cond b 4 0))

@@ -4,14 +4,14 @@ use mathlib.Core.Path.{refl}
 use Prim.Native.Nat.{_-_}
 use native.Mathlib.Omega.{arith}
 use lib.ListN.{length}
-use Rattle.acceptance.proofs.Cells.{Gathered, gather-more, gather-done}
+use Rattle.acceptance.proofs.Cells.{Faults, faults-more, faults-done}
 use Rattle.acceptance.proofs.cell_code.Statement.{statement}
 use Rattle.acceptance.proofs.cell_code.Tie as tie
 use Rattle.acceptance.proofs.cell_code.Reads as reads
 use Rattle.acceptance.proofs.cell_code.Lts as lts
 
 abbrev Inv-loop : tie.InvT-loop
-Inv-loop m opens callouts slots beyond₀ closed₀ i₀ beyond closed i = Gathered m opens callouts beyond closed i
+Inv-loop m opens callouts slots beyond₀ closed₀ i₀ beyond closed i = Faults m opens callouts beyond closed i
 
 abbrev μ-loop : tie.MeasureT-loop
 μ-loop m opens callouts slots beyond₀ closed₀ i₀ beyond closed i = length opens - i
@@ -52,7 +52,7 @@ loop-again c =
     let start = head .before .before .before .before in
     let i = head .loop .i in
     rw (c .before .minus .ensures, c .minus2 .ensures, head .before .low .ensures)
-    (gather-more _ _ _ (start .pre .1) _ _ i (head .loop .inv) (start .pre .0) (omega arith) (c .before .before .before .shared-slice-known3 .given i .fits))
+    (faults-more _ _ _ (start .pre .1) _ _ i (head .loop .inv) (start .pre .0) (omega arith) (c .before .before .before .shared-slice-known3 .given i .fits))
 
 first-code-requires : tie.Need-first-code-requires Inv-loop μ-loop
 first-code-requires c κs = search needs
@@ -60,7 +60,7 @@ first-code-requires c κs = search needs
 returns : tie.Need-returns Inv-loop μ-loop
 returns c =
     let head = c .before .before in
-    gather-done _ _ _ (head .before .before .before .before .pre .1) _ _ _ (head .loop .inv) (omega arith) _ (c .first-code .ensures)
+    faults-done _ _ _ (head .before .before .before .before .pre .1) _ _ _ (head .loop .inv) (omega arith) _ (c .first-code .ensures)
 
 pub cell-code-spec : {M : Type 1} → statement M
 cell-code-spec =
