@@ -15,7 +15,7 @@ use Rattle.model.specs.File.{blocksFor, blocksIn, itemsIn, wordsIn, opensIn, ca
 use Rattle.model.specs.Answers.{orElse, unlessRefused, written, roomCode, readCode, readAnswer, readOpens, readCallouts, writeCode, writeAnswer, writeFile}
 use Rattle.model.proofs.Refusals.{or-first}
 use Rattle.model.proofs.Files.{file-length}
-use Rattle.rota_file.proofs.Found.{blocks-count}
+use Rattle.rota_file.proofs.Checks.{blocks-count}
 use Rattle.rota_file.proofs.Values.{values-length}
 
 -- ---- an accepted layout has room for its n items

@@ -1,7 +1,7 @@
 mod Turns
 mod Layouts
-mod Found
-mod Refusals
+mod Checks
+mod FileRefusals
 mod Values
 mod Written
 mod Answered

@@ -4,7 +4,7 @@ use native.Mathlib.Omega.{arith}
 use borrow.Author.Tests.{not-true, not-false}
 use mathlib.Core.Path.{_∙_, sym}
 use Rattle.model.specs.File.{itemsIn}
-use Rattle.rota_file.proofs.Refusals.{Tested, Counted, says-12, says-13, no-items, many-items, other-blocks, not-laid, all-laid}
+use Rattle.rota_file.proofs.FileRefusals.{Tested, Counted, says-12, says-13, no-items, many-items, other-blocks, not-laid, all-laid}
 use Rattle.rota_file.proofs.reading.layout_code.Statement.{statement}
 use Rattle.rota_file.proofs.reading.layout_code.Tie as tie
 

@@ -21,9 +21,9 @@ module _ (file : List ℕ) where
   -- ---- block b
 
   module _ (b : ℕ) where
-    pub found-none : length file / 512 ≤ b → _≡_ {A = Checked} (record { wrong = false; laid = true }) (checkedAt file b)
+    pub checked-none : length file / 512 ≤ b → _≡_ {A = Checked} (record { wrong = false; laid = true }) (checkedAt file b)
     unfolding checkedAt any blocksLaid
-    found-none h = sym (ap (λ l. checkedOf file b (take 1 l)) (drop-of-length-le (blocksIn file) {i = b} (omega (arith, blocks-count))))
+    checked-none h = sym (ap (λ l. checkedOf file b (take 1 l)) (drop-of-length-le (blocksIn file) {i = b} (omega (arith, blocks-count))))
 
     next-block : b < length file / 512 → take 1 (drop b (blocksIn file)) ≡ take 512 (drop (512 * b) file) ∷ []
     unfolding blocksIn cut
@@ -32,10 +32,10 @@ module _ (file : List ℕ) where
         let q : k - b ≡ suc (k - suc b) = omega arith in
         ap (take 1) (cut-drop b k file ∙ ap (λ j. cut j (drop (512 * b) file)) q)
 
-    pub found-block : b < length file / 512 → (w l : Bool) → let block = take (512 * b + 512 - 512 * b) (drop (512 * b) file) in
+    pub checked-block : b < length file / 512 → (w l : Bool) → let block = take (512 * b + 512 - 512 * b) (drop (512 * b) file) in
         w ≡ checkWrong block → l ≡ blockLaid (getD file 5 0) b block → _≡_ {A = Checked} (record { wrong = w; laid = l }) (checkedAt file b)
     unfolding checkedAt any blocksLaid itemsIn
-    found-block h w l p q =
+    checked-block h w l p q =
         let size : 512 * b + 512 - 512 * b ≡ 512 = omega arith in
         let block = take 512 (drop (512 * b) file) in
         ap₂ (λ x y. record { wrong = x; laid = y }) (rw size at p ∙ sym (or-false (checkWrong block))) (rw size at q ∙ sym (and-true (blockLaid (getD file 5 0) b block)))
@@ -43,15 +43,15 @@ module _ (file : List ℕ) where
 
   -- ---- the blocks before number b
 
-  pub record Found (wrong laid : Bool) (b : ℕ) : Type 0 where
+  pub record Checking (wrong laid : Bool) (b : ℕ) : Type 0 where
     pub within : b ≤ length file / 512
     pub wrongs : any checkWrong (blocksIn file) ≡ (wrong || any checkWrong (drop b (blocksIn file)))
     pub laids : blocksLaid (itemsIn file) 0 (blocksIn file) ≡ (laid && blocksLaid (itemsIn file) b (drop b (blocksIn file)))
 
-  module _ (wrong laid : Bool) (b : ℕ) (f : Found wrong laid b) where
-    pub found-more : b < length file / 512 → (c : Checked) → c ≡ checkedAt file b → Found (wrong || c .wrong) (laid && c .laid) (b + 1)
+  module _ (wrong laid : Bool) (b : ℕ) (f : Checking wrong laid b) where
+    pub checking-more : b < length file / 512 → (c : Checked) → c ≡ checkedAt file b → Checking (wrong || c .wrong) (laid && c .laid) (b + 1)
     unfolding checkedAt any blocksLaid
-    found-more h c e =
+    checking-more h c e =
         let block = getD (blocksIn file) b [] in
         let rest = drop (suc b) (blocksIn file) in
         let d : drop b (blocksIn file) ≡ block ∷ rest = drop-cons (blocksIn file) b [] (omega (arith, blocks-count)) in
@@ -65,9 +65,9 @@ module _ (file : List ℕ) where
               (f .laids ∙ ap (λ x. laid && blocksLaid (itemsIn file) b x) d ∙ sym (and-assoc laid (blockLaid (itemsIn file) b block) (blocksLaid (itemsIn file) (suc b) rest)));
         }
 
-    pub found-all : length file / 512 ≤ b → _≡_ {A = Checked} (record { wrong = wrong; laid = laid }) (allChecked file)
+    pub checking-all : length file / 512 ≤ b → _≡_ {A = Checked} (record { wrong = wrong; laid = laid }) (allChecked file)
     unfolding allChecked any blocksLaid
-    found-all h =
+    checking-all h =
         let d : drop b (blocksIn file) ≡ [] = drop-of-length-le (blocksIn file) {i = b} (omega (arith, blocks-count)) in
         ap₂ (λ x y. record { wrong = x; laid = y })
         (sym (f .wrongs ∙ ap (λ l. wrong || any checkWrong l) d ∙ or-false wrong))

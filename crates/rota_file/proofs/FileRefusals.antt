@@ -15,7 +15,7 @@ use Rattle.model.specs.Answers.{orElse}
 use Rattle.model.proofs.Files.{fileCode-is, size-into}
 use Rattle.rota_file.specs.Blocks.{allChecked}
 use Rattle.rota_file.specs.declared.reader.Checked.{Checked}
-use Rattle.rota_file.proofs.Found.{blocks-count}
+use Rattle.rota_file.proofs.Checks.{blocks-count}
 
 -- what the tests before 13 leave, and what the tests of all blocks found
 pub record Tested (file : List ℕ) (c : Checked) : Type 0 where
