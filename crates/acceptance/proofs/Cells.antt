@@ -10,7 +10,7 @@ use lib.Dec.{eqb, leb}
 use lib.ListN.{length, getD, drop, drop-of-length-le}
 use lib.Seq.{drop-cons}
 use Rattle.words.specs.Word.{low, minus}
-use Rattle.words.proofs.Sets.{has-from, or-some}
+use Rattle.words.proofs.SetLaws.{has-from, or-some}
 use Rattle.model.specs.Lists.{any}
 use Rattle.model.specs.Rota.{strayCallout, cellCode}
 

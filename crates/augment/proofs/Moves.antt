@@ -10,7 +10,7 @@ use lib.ListN.{length, set, length-set}
 use lib.Seq.{getD-set-same, getD-set-other}
 use Rattle.words.specs.Word.{bit, with, without}
 use Rattle.words.proofs.Bits.{bit-with, bit-with-other, bit-without, bit-without-other}
-use Rattle.words.proofs.Sets.{bit-with-le}
+use Rattle.words.proofs.SetLaws.{bit-with-le}
 use Rattle.augment.specs.Table.{own, at, cell, Table, Matched, Exposed}
 
 -- one of two cases

@@ -9,7 +9,7 @@ use lib.Count.{ones, ones-le}
 use lib.ListN.{length, getD, set}
 use Rattle.words.specs.Word.{bit, with, without, minus, lowest}
 use Rattle.words.proofs.Bits.{bit-lt, bit-empty, bit-and, bit-or, bit-minus, bit-with, bit-with-other}
-use Rattle.words.proofs.Sets.{bit-with-le, minus-le, ones-proper, lowest-lt, bit-lowest}
+use Rattle.words.proofs.SetLaws.{bit-with-le, minus-le, ones-proper, lowest-lt, bit-lowest}
 use Rattle.augment.specs.Table.{own, cell, Table, Matched, Exposed, Owners, span}
 use Rattle.augment.specs.Search.{Movable, Mover, Relocatable, Relocated, Vacatable, Vacated, Certificate, Assignable, Assigned, Barred}
 use Rattle.augment.proofs.Spans.{span-into, span-from, span-lt, span-same}

@@ -10,7 +10,7 @@ use lib.Bits.{bitOr, or-lt}
 use lib.ListN.{length, getD}
 use Rattle.words.specs.Word.{bit, without, lowest}
 use Rattle.words.proofs.Bits.{ext, bit-lt, bit-cases, bit-empty, bit-or, bit-without-other}
-use Rattle.words.proofs.Sets.{bit-without-le}
+use Rattle.words.proofs.SetLaws.{bit-without-le}
 use Rattle.words.proofs.Walk.{Walk, Turn, walk, turn}
 use Rattle.model.specs.Sets.{members}
 use Rattle.model.proofs.Sets.{members-from, members-into, union-into, union-from, union-lt}

@@ -9,7 +9,7 @@ use lib.ListN.{length, getD, replicate, getD-replicate}
 use lib.Pow.{pow-pos, pow-lt}
 use Rattle.words.specs.Word.{bit, with, minus}
 use Rattle.words.proofs.Bits.{bit-lt, bit-empty, bit-and, bit-not, bit-minus, bit-one-lt, bit-single, bit-single-other, bit-with, bit-with-other}
-use Rattle.words.proofs.Sets.{bit-with-le}
+use Rattle.words.proofs.SetLaws.{bit-with-le}
 use Rattle.model.specs.Plans.{IsPlan}
 use Rattle.model.specs.Allowed.{allowedWord}
 use Rattle.model.proofs.Allowed.{allowed-by}

@@ -12,7 +12,7 @@ use Rattle.words.specs.Word.{bit, low, minus, lowest}
 use Rattle.words.specs.Sum.{sum}
 use Rattle.words.proofs.Bits.{bit-lt, bit-empty, bit-and, bit-or, bit-minus, bit-single, bit-single-other, bit-low, at-slot}
 use Rattle.words.proofs.Sums.{sum-lt}
-use Rattle.words.proofs.Sets.{minus-le, lowest-lt, bit-lowest}
+use Rattle.words.proofs.SetLaws.{minus-le, lowest-lt, bit-lowest}
 use Rattle.model.specs.Allowed.{allowedWord}
 use Rattle.augment.specs.Table.{own, at, cell}
 use Rattle.augment.specs.Search.{Within}

@@ -11,7 +11,7 @@ use lib.ListN.{length, getD, set, length-set}
 use lib.Seq.{getD-set-same, getD-set-other}
 use Rattle.words.specs.Word.{bit, with, minus, low}
 use Rattle.words.proofs.Bits.{bit-lt, bit-empty, bit-and, bit-or, bit-minus, bit-low, bit-single, bit-with, bit-with-other, with-lt}
-use Rattle.words.proofs.Sets.{bit-with-le}
+use Rattle.words.proofs.SetLaws.{bit-with-le}
 use Rattle.model.specs.Plans.{IsPlan}
 use Rattle.augment.specs.Table.{own, at, Matched, Complete}
 use Rattle.augment.specs.Search.{Within}

@@ -12,7 +12,7 @@ use lib.ListN.{length, getD}
 use lib.Pow.{pow-mono, pow-pos}
 use Rattle.words.specs.Word.{bit, without, minus, with, lowest}
 use Rattle.words.proofs.Bits.{ext, bit-lt, bit-empty, bit-and, bit-or, bit-minus, with-lt}
-use Rattle.words.proofs.Sets.{ones-or-and, ones-minus, ones-none, ones-subset, subset-eq, empty, minus-le, bit-with-max}
+use Rattle.words.proofs.SetLaws.{ones-or-and, ones-minus, ones-none, ones-subset, subset-eq, empty, minus-le, bit-with-max}
 use Rattle.words.proofs.Walk.{Walk, Turn, walk, turn}
 use Rattle.model.specs.Plans.{blank, IsPlan}
 use Rattle.model.specs.Answers as answers

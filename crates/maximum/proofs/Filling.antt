@@ -9,7 +9,7 @@ use lib.ListN.{length, getD, replicate, getD-replicate}
 use lib.Pow.{pow-pos}
 use Rattle.words.specs.Word.{bit, with, without, minus, low, lowest}
 use Rattle.words.proofs.Bits.{bit-lt, bit-empty, bit-one-lt, bit-minus, bit-low, low-lt, bit-with, bit-with-other, with-lt, bit-without, bit-without-other}
-use Rattle.words.proofs.Sets.{bit-with-le, bit-without-le}
+use Rattle.words.proofs.SetLaws.{bit-with-le, bit-without-le}
 use Rattle.words.proofs.Walk.{Walk, Turn, walk, turn}
 use Rattle.augment.specs.Table.{at, Table, Matched, Exposed}
 use Rattle.augment.specs.Search.{Assignable, Assigned, Barred, Same}

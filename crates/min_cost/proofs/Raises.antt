@@ -12,7 +12,7 @@ use lib.Seq.{getD-set-other}
 use Rattle.words.specs.Word.{bit, low}
 use Rattle.words.specs.Sum.{sum}
 use Rattle.words.proofs.Bits.{bit-lt, bit-empty, bit-low, bit-or}
-use Rattle.words.proofs.Sets.{ones-sum, ones-none, high-empty}
+use Rattle.words.proofs.SetLaws.{ones-sum, ones-none, high-empty}
 use Rattle.words.proofs.Sums.{sum-cong, sum-add}
 use Rattle.model.specs.Plans.{IsPlan}
 use Rattle.model.proofs.Laws.{callouts-le}

@@ -15,7 +15,7 @@ use Rattle.words.specs.Word.{bit}
 use Rattle.words.specs.Sum.{below}
 use Rattle.words.proofs.Bits.{bit-lt, bit-and, bit-or, bit-one-lt, bit-cases}
 use Rattle.words.proofs.Sums.{below-from, below-into, sum-injection}
-use Rattle.words.proofs.Sets.{ones-sum, ones-or-and, ones-subset, subset-eq}
+use Rattle.words.proofs.SetLaws.{ones-sum, ones-or-and, ones-subset, subset-eq}
 use Rattle.model.specs.Lists.{greatest, least}
 use Rattle.model.specs.Sets.{members}
 use Rattle.model.specs.Plans.{IsPlan}

@@ -15,7 +15,7 @@ use Rattle.words.specs.Word.{bit, has, without}
 use Rattle.words.specs.Sum.{below, total, sum}
 use Rattle.words.proofs.Bits.{bit-lt, bit-cases, bit-one, bit-none, has-in, has-bit, bit-empty, bit-or, bit-single, bit-single-other, bit-without-other, at-slot}
 use Rattle.words.proofs.Sums.{below-from, below-into, sum-injection}
-use Rattle.words.proofs.Sets.{ones-sum, bit-without-le}
+use Rattle.words.proofs.SetLaws.{ones-sum, bit-without-le}
 use Rattle.model.specs.Lists.{keep}
 use Rattle.model.specs.Sets.{members, union}
 use Rattle.model.proofs.Members.{keep-from, keep-into}

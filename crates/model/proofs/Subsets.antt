@@ -16,7 +16,7 @@ use Rattle.words.specs.Word.{bit, has, without, low}
 use Rattle.words.specs.Sum.{below, total, sum}
 use Rattle.words.proofs.Bits.{at-slot, bit-lt, bit-low, bit-without, bit-without-other, without-le, has-true, has-false}
 use Rattle.words.proofs.Sums.{below-from, total-cong, sum-le, sum-scale}
-use Rattle.words.proofs.Sets.{ones-sum, ones-none, ones-low, ones-without}
+use Rattle.words.proofs.SetLaws.{ones-sum, ones-none, ones-low, ones-without}
 use Rattle.model.specs.Lists.{remove}
 use Rattle.model.specs.Sets.{members}
 use Rattle.model.specs.Plans.{matchings}

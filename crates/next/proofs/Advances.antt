@@ -10,7 +10,7 @@ use lib.Bits.{bitOr}
 use lib.ListN.{length, getD}
 use Rattle.words.specs.Word.{bit, with, without, minus, low}
 use Rattle.words.proofs.Bits.{bit-lt, bit-or, bit-low, bit-minus, bit-without, bit-without-other}
-use Rattle.words.proofs.Sets.{bit-without-le}
+use Rattle.words.proofs.SetLaws.{bit-without-le}
 use Rattle.model.specs.declared.PlanAnswer.{PlanAnswer}
 use Rattle.model.specs.Plans.{plansAfter, IsPlan}
 use Rattle.model.specs.Answers.{nextOf, given, refused}

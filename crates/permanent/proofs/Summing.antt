@@ -12,7 +12,7 @@ use lib.Pow.{pow-mono}
 use Rattle.words.specs.Word.{bit, without, lowest}
 use Rattle.words.specs.Sum.{sum}
 use Rattle.words.proofs.Bits.{bit-lt, bit-and, bit-one-lt, without-le, without-less}
-use Rattle.words.proofs.Sets.{ones-none, sum-empty, sum-and, sum-without, bit-without-le, lowest-lt, bit-lowest}
+use Rattle.words.proofs.SetLaws.{ones-none, sum-empty, sum-and, sum-without, bit-without-le, lowest-lt, bit-lowest}
 use Rattle.model.proofs.Subsets.{subset-step, subset-fits}
 use Rattle.permanent.specs.SubsetWord.{word, Known}
 

@@ -1,5 +1,5 @@
 pub mod Bits
 pub mod Sums
-pub mod Sets
+pub mod SetLaws
 pub mod Walk
 pub mod Sweep

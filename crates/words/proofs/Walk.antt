@@ -6,7 +6,7 @@ use native.Mathlib.Nat.{le-trans}
 use native.Mathlib.Omega.{arith}
 use Rattle.words.specs.Word.{bit, without, lowest}
 use Rattle.words.proofs.Bits.{bit-lt, without-le, without-less}
-use Rattle.words.proofs.Sets.{bit-without-le, lowest-lt, bit-lowest}
+use Rattle.words.proofs.SetLaws.{bit-without-le, lowest-lt, bit-lowest}
 
 -- the slots of `left` are yet to be visited, of those of `set`
 pub record Walk (set left : ℕ) : Type 0 where

@@ -1,6 +1,6 @@
 -- `words::without_lowest` meets its contract: one less turns over the lowest slot and those below it. Assumes nothing.
 use borrow.Author.Needs.{needs}
-use Rattle.words.proofs.Sets.{and-pred}
+use Rattle.words.proofs.SetLaws.{and-pred}
 use Rattle.words.proofs.without_lowest.Statement.{statement}
 use Rattle.words.proofs.without_lowest.Tie as tie
 
