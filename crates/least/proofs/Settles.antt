@@ -149,7 +149,9 @@ module _ (w o p : List ℕ) (f x after fixed s : ℕ) (S : Minimizable w o p f x
         let s′ = at p x in
         record {
           held = λ k h b. omega (arith, in-others k h, bit-lt (with f s′) k);
-          has-fixed = λ k h. same-or (bit fixed k) 1 (λ b. omega (arith, in-others k h, held-without w o p f x fixed fixed-held k h b)) (λ m. omega (arith, bit-lt fixed k));
+          has-fixed = λ k h. same-or (bit fixed k) 1
+              (λ b. omega (arith, in-others k h, held-without w o p f x fixed fixed-held k h b))
+              (λ m. omega (arith, bit-lt fixed k));
           shut = λ k h b c l g.
               let held : bit f k ≡ 0 = omega (arith, in-others k h, bit-with-le f s′ k) in
               let d : k ≢ s′ = λ e. omega (arith, in-others k h, ap (bit (with f s′)) e, bit-with f s′) in

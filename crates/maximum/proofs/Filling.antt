@@ -150,7 +150,8 @@ module _ (w : List ℕ) (wanting : ℕ) (o p : List ℕ) (f e d left x rest cand
                 (λ q l g. omega (arith, ap (λ z. bit (getD w z 0) l) q, in-cand l g, B .all l g, B .has-fixed l g, bit-lt (getD w x 0) l, bit-lt d l))
                 (λ n l g. le-trans (F .dead .all y h (sym (bit-with-other e x y n) ∙ sym (ew y) ∙ b) l g) (B .has-fixed l g));
             least = λ g s c.
-                let dg = F .dead .least g (λ y h b. s y h (omega (arith, old y, bit-lt e′ y))) (λ k h b q. c k h b (omega (arith, B .has-fixed k h, bit-lt t k))) in
+                let dg = F .dead .least g (λ y h b. s y h (omega (arith, old y, bit-lt e′ y)))
+                (λ k h b q. c k h b (omega (arith, B .has-fixed k h, bit-lt t k))) in
                 B .least g dg (λ k h. le-trans (filling-assignable .may k h) (s x filling-item (ew x ∙ bit-with e x) k h)) (λ k h b q z. c k h b q);
           };
         }

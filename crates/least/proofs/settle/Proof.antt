@@ -45,7 +45,8 @@ loop-less c = omega arith
 loop-again : tie.Need-loop-again Inv-loop μ-loop
 loop-again c =
     let l = c .before .before .before .before .before in
-    settling-turn _ _ _ _ _ _ _ _ (l .loop .inv) (c .before .before .before .before .loop-test .taken) _ _ _ _ (c .before .minimize .ensures) _ (c .with .ensures)
+    settling-turn _ _ _ _ _ _ _ _ (l .loop .inv) (c .before .before .before .before .loop-test .taken) _ _ _ _ (c .before .minimize .ensures) _
+    (c .with .ensures)
 
 returns : tie.Need-returns Inv-loop μ-loop
 returns c = settling-end _ _ _ _ _ _ _ _ (c .before .loop .inv) (c .loop-test .left)

@@ -1,7 +1,8 @@
 -- `next::advance_item` meets its contract: the item is pinned, or leaves its slot for one above and goes down among these. Assumes nothing.
 use mathlib.Core.Path.{refl, sym, _∙_}
 use native.Mathlib.Omega.{arith}
-use Rattle.next.proofs.ItemAdvances.{advance-item-slot, advance-item-pinned, advance-item-none, advance-item-stuck, advance-item-shiftable, advance-item-lowerable, advance-item-lowered, advance-item-below}
+use Rattle.next.proofs.ItemAdvances.{advance-item-slot, advance-item-pinned, advance-item-none, advance-item-stuck}
+use Rattle.next.proofs.ItemAdvances.{advance-item-shiftable, advance-item-lowerable, advance-item-lowered, advance-item-below}
 use borrow.Author.Needs.{needs}
 use Rattle.next.proofs.advance_item.Statement.{statement}
 use Rattle.next.proofs.advance_item.Tie as tie
