@@ -1,4 +1,4 @@
-//! Links librota_c.a from the directory in ROTA_LIBRARY, by default target/staticlib of the repository.
+//! Links librota.a from the directory in ROTA_LIBRARY, by default target/staticlib of the repository.
 
 use std::env;
 use std::path::PathBuf;
@@ -11,7 +11,7 @@ fn main() {
         Some(directory) => here.join(directory),
         None => here.join("../target/staticlib"),
     };
-    println!("cargo:rerun-if-changed={}", library.join("librota_c.a").display());
+    println!("cargo:rerun-if-changed={}", library.join("librota.a").display());
     println!("cargo:rustc-link-search=native={}", library.display());
-    println!("cargo:rustc-link-lib=static=rota_c");
+    println!("cargo:rustc-link-lib=static=rota");
 }

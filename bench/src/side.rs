@@ -2,7 +2,7 @@
 
 use crate::library;
 use crate::records::{CountAnswer, GradeAnswer, Lister, Plan, PlanAnswer, PriceAnswer, ReadAnswer, WriteAnswer};
-use crate::same::{file_plans, rota, rota_file};
+use crate::same::rota::{counting, file_plans, files, lister, plans, pricing, usable};
 
 pub struct Side {
     pub first_plan: fn(usize, &[u64], &[u64]) -> PlanAnswer,
@@ -37,17 +37,17 @@ pub static LIBRARY: Side = Side {
 };
 
 pub static RUST: Side = Side {
-    first_plan: rota::first_plan,
-    next_plan: rota::next_plan,
-    list_plan: rota::list_plan,
-    fewest_callouts: rota::fewest_callouts,
-    usable_slots: rota::usable_slots,
-    count_plans: rota::count_plans,
-    grade: rota::grade,
-    monthly_price: rota::monthly_price,
-    read_file: rota_file::read_file,
-    write_file: rota_file::write_file,
-    file_first_plan: file_plans::file_first_plan,
-    file_next_plan: file_plans::file_next_plan,
-    file_fewest_callouts: file_plans::file_fewest_callouts,
+    first_plan: plans::rota_first_plan,
+    next_plan: plans::rota_next_plan,
+    list_plan: lister::rota_list_plan,
+    fewest_callouts: plans::rota_fewest_callouts,
+    usable_slots: usable::rota_usable_slots,
+    count_plans: counting::rota_count_plans,
+    grade: pricing::rota_grade,
+    monthly_price: pricing::rota_monthly_price,
+    read_file: files::rota_read_file,
+    write_file: files::rota_write_file,
+    file_first_plan: file_plans::rota_file_first_plan,
+    file_next_plan: file_plans::rota_file_next_plan,
+    file_fewest_callouts: file_plans::rota_file_fewest_callouts,
 };

@@ -1,8 +1,7 @@
-//! Refusals 1 to 7: whether two tables are accepted as a rota, and whether its plans can be counted and a fleet priced; and a refused
-//! call's answer.
+//! Refusals 1 to 7: whether two tables are accepted as a rota, and whether its plans can be counted and a fleet priced. Each test
+//! stands alone; `count_code` and `price_code` make those of a call in their order.
 
 use super::words;
-use crate::records::{Plan, PlanAnswer};
 
 // The first refusal: 3 for open bits beyond the slots, then 4 for callout bits on closed cells.
 fn first_code(beyond: u64, closed: u64) -> u32 {
@@ -48,23 +47,24 @@ pub fn table_code(n: usize, opens: &[u64], callouts: &[u64]) -> u32 {
     cell_code(n, opens, callouts)
 }
 
-// 1 to 6 or 0, for a tally of so many words.
-pub fn count_code(n: usize, opens: &[u64], callouts: &[u64], tally: usize) -> u32 {
-    let code = table_code(n, opens, callouts);
-    if code != 0 {
-        return code;
-    }
-    if 20 < n {
+// 5 or 0, for m slots.
+pub fn size_code(m: usize) -> u32 {
+    if 20 < m {
         return 5;
     }
-    if (tally as u64) < words::single(n) {
+    0
+}
+
+// 6 or 0, for m slots and a tally of so many words.
+pub fn tally_code(m: usize, tally: usize) -> u32 {
+    if (tally as u64) < words::single(m) {
         return 6;
     }
     0
 }
 
 // 7 or 0.
-fn fleet_code(vehicles: u64) -> u32 {
+pub fn fleet_code(vehicles: u64) -> u32 {
     if vehicles == 0 {
         return 7;
     }
@@ -74,16 +74,24 @@ fn fleet_code(vehicles: u64) -> u32 {
     0
 }
 
+// 1 to 6 or 0, for a tally of so many words.
+pub fn count_code(n: usize, opens: &[u64], callouts: &[u64], tally: usize) -> u32 {
+    let table = table_code(n, opens, callouts);
+    if table != 0 {
+        return table;
+    }
+    let size = size_code(n);
+    if size != 0 {
+        return size;
+    }
+    tally_code(n, tally)
+}
+
 // 1 to 7 or 0.
-pub fn price_code(n: usize, opens: &[u64], callouts: &[u64], tally: usize, vehicles: u64) -> u32 {
+pub fn price_code(n: usize, opens: &[u64], callouts: &[u64], vehicles: u64, tally: usize) -> u32 {
     let code = count_code(n, opens, callouts, tally);
     if code != 0 {
         return code;
     }
     fleet_code(vehicles)
-}
-
-// A refused call's answer: the blank plan and zeros.
-pub fn refusal(code: u32) -> PlanAnswer {
-    PlanAnswer { code, shortage: 0, items: 0, callouts: 0, plan: Plan { slots: [255u8; 64] } }
 }

@@ -2,8 +2,8 @@
 //! before left to them. The tables are those of `augment`.
 
 use super::augment::Found;
-use super::{augment, maximum, words};
-use crate::records::{Plan, PlanAnswer};
+use super::{answers, augment, maximum, words};
+use crate::records::PlanAnswer;
 
 // Item x moves to a slot of `cand` if that is possible with the slots of `fixed` left to their holders.
 pub fn shift(
@@ -106,7 +106,7 @@ pub fn first_plan(opens: &[u64]) -> PlanAnswer {
     let exposed = m.exposed;
     if exposed == 0 {
         settle(opens, &mut owner, &mut slot, m.free, 0, 0);
-        return PlanAnswer { code: 0, shortage: 0, items: 0, callouts: 0, plan: Plan { slots: slot } };
+        return answers::given(slot, 0);
     }
     maximum::no_plan(&owner, exposed, m.dead)
 }

@@ -1,8 +1,8 @@
 //! Maximum matchings, and the deficient set that shows that no matching is larger (document 01's shortage). The tables are those
 //! of `augment`.
 
-use super::{augment, words};
-use crate::records::{Plan, PlanAnswer};
+use super::{answers, augment, words};
+use crate::records::PlanAnswer;
 
 // The free slots, the exposed items, and the dead slots: those that no item may use in any matching that serves more.
 pub struct Maximum {
@@ -76,11 +76,5 @@ pub fn deficient_set(owner: &[u8; 64], exposed: u64, dead: u64) -> u64 {
 
 // 9: no complete plan exists.
 pub fn no_plan(owner: &[u8; 64], exposed: u64, dead: u64) -> PlanAnswer {
-    PlanAnswer {
-        code: 9,
-        shortage: words::size(exposed) as u32,
-        items: deficient_set(owner, exposed, dead),
-        callouts: 0,
-        plan: Plan { slots: [255u8; 64] },
-    }
+    answers::short(words::size(exposed) as u32, deficient_set(owner, exposed, dead))
 }

@@ -2,8 +2,8 @@
 //! order. The duals are u[i] = dual[i] + 1 of the items and v[j] of the slots, all 1 at first, with u[i] <= cost(i, j) + v[j] on
 //! every open cell, cost 1 for a callout, else 0; a cell is tight where both sides are equal. level[x] are the slots with v = x.
 
-use super::{least, maximum, words};
-use crate::records::{Plan, PlanAnswer};
+use super::{answers, least, maximum, words};
+use crate::records::PlanAnswer;
 
 // A plan with the fewest callouts, and their number.
 struct Cheap {
@@ -70,8 +70,7 @@ pub fn fewest_plan(opens: &[u64], callouts: &[u64], cap: u32) -> PlanAnswer {
     let r = cheapest(opens, callouts, &mut tight[..n]);
     let number = r.number as u32;
     if number <= cap {
-        let slots = r.slots;
-        return PlanAnswer { code: 0, shortage: 0, items: 0, callouts: number, plan: Plan { slots: slots } };
+        return answers::given(r.slots, number);
     }
-    PlanAnswer { code: 11, shortage: 0, items: 0, callouts: number, plan: Plan { slots: [255u8; 64] } }
+    answers::over_cap(number)
 }

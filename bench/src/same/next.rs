@@ -1,56 +1,8 @@
 //! The next perfect matching after a given one (document 01's next plan). The tables are those of `augment`.
 
 use super::augment::Found;
-use super::{acceptance, least, words};
+use super::{answers, least, plan, words};
 use crate::records::{Plan, PlanAnswer};
-
-// Whether the bytes from n on are 0.
-pub fn zeros_from(plan: [u8; 64], n: usize) -> bool {
-    let mut i = n;
-    while i < 64 {
-        if plan[i] != 0 {
-            return false;
-        }
-        i += 1;
-    }
-    true
-}
-
-// What became of a record that is to be a plan.
-pub struct Adoption {
-    pub ok: bool,
-    pub free: u64,
-}
-
-// Each item's byte is an open slot that no item before it has; `owner` gets the holders.
-pub fn adopt_items(opens: &[u64], plan: [u8; 64], owner: &mut [u8; 64]) -> Adoption {
-    let mut free = words::low(64);
-    let mut i = 0;
-    while i < opens.len() {
-        let s = words::wide(plan[i]);
-        if s >= 64 {
-            return Adoption { ok: false, free };
-        }
-        if !words::has(opens[i], s) {
-            return Adoption { ok: false, free };
-        }
-        if !words::has(free, s) {
-            return Adoption { ok: false, free };
-        }
-        owner[s] = i as u8;
-        free = words::without(free, s);
-        i += 1;
-    }
-    Adoption { ok: true, free }
-}
-
-// Whether a record is a plan: then `owner` gets the holders, and the answer has the free slots.
-pub fn adopt(opens: &[u64], plan: [u8; 64], owner: &mut [u8; 64]) -> Adoption {
-    if !zeros_from(plan, opens.len()) {
-        return Adoption { ok: false, free: 0 };
-    }
-    adopt_items(opens, plan, owner)
-}
 
 // Item x moves to the least slot above its own that leaves those of the items before it to them, if there is one. `after` are the
 // slots open to the items after it.
@@ -93,20 +45,20 @@ pub fn advance(opens: &[u64], plan: [u8; 64], owner: &mut [u8; 64], free: u64) -
         let r = advance_item(opens, owner, &mut slot, free, i, after, fixed);
         if r.at != 64 {
             least::settle(opens, owner, &mut slot, r.word, i + 1, words::with(fixed, r.at));
-            return PlanAnswer { code: 0, shortage: 0, items: 0, callouts: 0, plan: Plan { slots: slot } };
+            return answers::given(slot, 0);
         }
         after = after | opens[i];
     }
-    acceptance::refusal(10)
+    answers::refused(10)
 }
 
 // The plan after the given one; 8 where that is none of this rota, 10 where none follows.
 pub fn next_plan(opens: &[u64], given: Plan) -> PlanAnswer {
     let plan = given.slots;
     let mut owner = [0u8; 64];
-    let a = adopt(opens, plan, &mut owner);
+    let a = plan::adopt(opens, plan, &mut owner);
     if !a.ok {
-        return acceptance::refusal(8);
+        return answers::refused(8);
     }
     advance(opens, plan, &mut owner, a.free)
 }

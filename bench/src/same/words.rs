@@ -1,4 +1,4 @@
-//! Words of 64 bits as sets of slots 0 to 63: slot j is in w if bit j of w is 1.
+//! Words of 64 bits as sets of slots 0 to 63: slot j is in w if bit j of w is 1; and tables of words.
 
 // Whether slot j is in w.
 pub fn has(w: u64, j: usize) -> bool {
@@ -61,4 +61,13 @@ pub fn size(w: u64) -> usize {
 // A byte as an index.
 pub fn wide(x: u8) -> usize {
     x as usize
+}
+
+// Copies words over the front of a lent table. The callers have tested that it is long enough.
+pub fn store(words: &[u64], table: &mut [u64]) {
+    let mut i = 0;
+    while i < words.len() {
+        table[i] = words[i];
+        i += 1;
+    }
 }

@@ -11,7 +11,7 @@ use Rattle.words.proofs.Bits.{bit-lt, bit-one-lt}
 use Rattle.words.proofs.Sums.{except, except-other, sum-except, sum-injection}
 use Rattle.model.specs.Plans.{IsPlan}
 use Rattle.augment.specs.Table.{own, at, Table, Exposed}
-use Rattle.augment.specs.Search.{Within}
+use Rattle.augment.specs.Search.{Within, Agrees}
 use Rattle.augment.proofs.Moves.{same-or, once, exposed-other}
 
 -- all slots of t are held, and the holders of those outside `fixed` may use none outside t
@@ -19,10 +19,6 @@ pub record Shut (w o : List ℕ) (f fixed t : ℕ) : Type 0 where
   pub held : (k : ℕ) → k < 64 → bit t k ≡ 1 → bit f k ≡ 0
   pub has-fixed : Within fixed t
   pub shut : (k : ℕ) → k < 64 → bit t k ≡ 1 → bit fixed k ≡ 0 → Within (getD w (own o k) 0) t
-
--- the plan q gives the slots of `fixed` to their holders
-abbrev pub Agrees : List ℕ → ℕ → List ℕ → Type 0
-Agrees o fixed q = (k : ℕ) → k < 64 → bit fixed k ≡ 1 → at q (own o k) ≡ k
 
 module _ (w o p : List ℕ) (f : ℕ) (T : Table w o p f) (q : List ℕ) (Q : IsPlan w q) where
   pub slot-lt : (x : ℕ) → x < length w → at q x < 64

@@ -35,7 +35,7 @@ relocate w o p f set′ h P =
     }
 
 abbrev Outcome : List ℕ → List ℕ → List ℕ → ℕ → ℕ → ℕ → Type 0
-Outcome w o p f set′ seen = After (Vacated w o p f set′ seen) ⊎ ((t : ℕ) × Certificate w o f set′ seen t)
+Outcome w o p f set′ seen = After (Vacated w o p f set′ seen) ⊎ ((t : ℕ) × (t < 2 ^ 64) × Certificate w o f set′ seen t)
 
 module _ (w o p : List ℕ) (f set′ seen : ℕ) (fits : seen < 2 ^ 64) (Z : Vacatable w o p f set′ seen) where
   abbrev layer : ℕ
@@ -55,7 +55,7 @@ module _ (w o p : List ℕ) (f set′ seen : ℕ) (fits : seen < 2 ^ 64) (Z : Va
             at = q .at;
             holds = next-vacated w o p f set′ seen fits Z none _ _ _ _ (r .holds) _ _ _ _ (q .holds);
           })
-      onward none (inr r) = inr (r .0, next-certificate w o p f set′ seen fits Z none (r .0) (r .1))
+      onward none (inr r) = inr (r .0, r .1, next-certificate w o p f set′ seen fits Z none (r .0) (r .2))
 
       go : Dec (bitAnd (span w o set′) f ≡ 0) → Dec (layer ≡ 0) → Outcome w o p f set′ seen
       go (no z) d =
@@ -63,7 +63,7 @@ module _ (w o p : List ℕ) (f set′ seen : ℕ) (fits : seen < 2 ^ 64) (Z : Va
           let A = at-hand w o p f set′ seen fits Z h z refl in
           let r = relocate w o p f set′ h A in
           inl (record { owner = r .owner; slot = r .slot; free = r .free; at = r .at; holds = vacated-at-hand w o p f set′ seen fits Z h A _ _ _ _ (r .holds) })
-      go (yes none) (yes e) = inr (seen, nothing-new w o p f set′ seen fits Z none e)
+      go (yes none) (yes e) = inr (seen, fits, nothing-new w o p f set′ seen fits Z none e)
       go (yes none) (no z) = onward none (ih none z)
 
 vacate : (fuel : ℕ) (w o p : List ℕ) (f set′ seen : ℕ) → 64 ≤ ones seen + fuel → (fits : seen < 2 ^ 64) → Vacatable w o p f set′ seen → Outcome w o p f set′ seen
@@ -76,10 +76,10 @@ vacate (suc fuel) w o p f set′ seen enough fits Z =
 
 -- item x gets a slot of cand, or a closed set holds all of cand
 pub assign-or : (w o p : List ℕ) (f x cand fixed : ℕ) → cand < 2 ^ 64 → fixed < 2 ^ 64 → Assignable w o p f x cand fixed
-    → After (Assigned w o p f x cand fixed) ⊎ ((t : ℕ) × Barred w o f cand fixed t)
+    → After (Assigned w o p f x cand fixed) ⊎ ((t : ℕ) × (t < 2 ^ 64) × Barred w o f cand fixed t)
 assign-or w o p f x cand fixed hc hk A = go (ℕ-discrete (bitAnd cand f) 0)
   where
-    found : Outcome w o p f cand (bitOr fixed cand) → After (Assigned w o p f x cand fixed) ⊎ ((t : ℕ) × Barred w o f cand fixed t)
+    found : Outcome w o p f cand (bitOr fixed cand) → After (Assigned w o p f x cand fixed) ⊎ ((t : ℕ) × (t < 2 ^ 64) × Barred w o f cand fixed t)
     found (inl r) = inl (record {
       owner = set (r .owner) (r .at) x;
       slot = set (r .slot) x (r .at);
@@ -87,9 +87,9 @@ assign-or w o p f x cand fixed hc hk A = go (ℕ-discrete (bitAnd cand f) 0)
       at = r .at;
       holds = assign-found w o p f x cand fixed A _ _ _ _ (r .holds);
     })
-    found (inr r) = inr (r .0, assign-barred w o p f x cand fixed A (r .0) (r .1))
+    found (inr r) = inr (r .0, r .1, assign-barred w o p f x cand fixed A (r .0) (r .2))
 
-    go : Dec (bitAnd cand f ≡ 0) → After (Assigned w o p f x cand fixed) ⊎ ((t : ℕ) × Barred w o f cand fixed t)
+    go : Dec (bitAnd cand f ≡ 0) → After (Assigned w o p f x cand fixed) ⊎ ((t : ℕ) × (t < 2 ^ 64) × Barred w o f cand fixed t)
     go (no z) =
         let h = lowest (bitAnd cand f) in
         inl (record { owner = set o h x; slot = set p x h; free = without f h; at = h; holds = at-once w o p f x cand fixed A h hc z refl })

@@ -106,3 +106,7 @@ pub record Barred (w o : List ℕ) (f cand fixed t : ℕ) : Type 0 where
   pub least : (g : ℕ) → Within fixed g → Within cand g
       → ((k : ℕ) → k < 64 → bit g k ≡ 1 → bit t k ≡ 1 → bit fixed k ≡ 0 → Within (getD w (own o k) 0) g)
       → Within t g
+
+-- the plan q gives the slots of `fixed` to their holders
+abbrev pub Agrees : List ℕ → ℕ → List ℕ → Type 0
+Agrees o fixed q = (k : ℕ) → k < 64 → bit fixed k ≡ 1 → at q (own o k) ≡ k

@@ -19,7 +19,7 @@ use Rattle.augment.proofs.Moves.{same-or, once}
 use Rattle.augment.proofs.Bars.{Shut, slot-lt, barred}
 use Rattle.augment.proofs.Exists.{assign-or}
 use Rattle.augment.proofs.Completes.{complete-plan, leave-table, leave-exposed, take-complete}
-use Rattle.components.specs.Component.{Closed, Saturating, Allowed, Marked, Growing, Grown}
+use Rattle.components.specs.Component.{Closed, Saturating, AllowedTable, Marked, Growing, Grown}
 use Rattle.components.proofs.Grows.{next-bit}
 
 module _ {w o : List ℕ} {f : ℕ} {a : List ℕ} {rest path set out : ℕ} (K : Saturating w o f) (P : Growing w o f a rest path set out)
@@ -110,7 +110,7 @@ module _ {w o : List ℕ} {f : ℕ} {a : List ℕ} {rest path set out : ℕ} (K 
             complete-plan w (r .owner) (r .slot) (r .free) (take-complete w o p f (K .complete) x known (2 ^ j) 0 _ _ _ _ (r .holds)),
             r .holds .slot ∙ same-or (r .at) j (λ q. q) (λ d. absurd (omega (arith, r .holds .from, bit-single-other j (r .at) d))),
           ))
-          (λ r. absurd (not-barred (r .0) (r .1)))
+          (λ r. absurd (not-barred (r .0) (r .2)))
           (assign-or w o p f′ x (2 ^ j) 0 (pow-lt h) (omega arith) assignable)
 
     word : allowedWord 64 w x ≡ bitAnd (getD w x 0) set
@@ -163,7 +163,7 @@ module _ {w o : List ℕ} {f : ℕ} {a : List ℕ} {rest path set out : ℕ} (K 
 
 -- ---- no plan, no allowed cell
 
-pub none-allowed : (w : List ℕ) → length w ≤ 64 → ((x : ℕ) → x < length w → getD w x 0 < 2 ^ 64) → ((q : List ℕ) → IsPlan w q → ⊥) → Allowed w (replicate 64 0)
+pub none-allowed : (w : List ℕ) → length w ≤ 64 → ((x : ℕ) → x < length w → getD w x 0 < 2 ^ 64) → ((q : List ℕ) → IsPlan w q → ⊥) → AllowedTable w (replicate 64 0)
 none-allowed w few range none =
     record {
       sized = refl;

@@ -18,7 +18,7 @@ use Rattle.augment.specs.Table.{own, at, cell}
 use Rattle.augment.specs.Search.{Within}
 use Rattle.augment.proofs.Moves.{same-or}
 use Rattle.augment.proofs.Searches.{common}
-use Rattle.components.specs.Component.{Saturating, Allowed, Growing, Grown}
+use Rattle.components.specs.Component.{Saturating, AllowedTable, Growing, Grown}
 
 -- what falls: the number of slots that are neither finished nor on the path nor in the set
 abbrev pub unseen : ℕ → ℕ → ℕ → ℕ
@@ -40,7 +40,7 @@ grow-start w o f =
     }
 
 -- nothing can lead back into an empty path, so every slot is finished
-pub grow-end : {w o : List ℕ} {f : ℕ} → Saturating w o f → {a : List ℕ} {rest set out : ℕ} → Grown w o f (low 64) 0 f (low 64) a rest set out → Allowed w a
+pub grow-end : {w o : List ℕ} {f : ℕ} → Saturating w o f → {a : List ℕ} {rest set out : ℕ} → Grown w o f (low 64) 0 f (low 64) a rest set out → AllowedTable w a
 grow-end {w} {o} {f} K {a} {rest} {set} {out} G =
     let F = G .growing .finished in
     record {
@@ -58,7 +58,7 @@ grow-end {w} {o} {f} K {a} {rest} {set} {out} G =
         (λ d. let r = G .back k (omega arith) in absurd (omega (arith, r .3, bit-empty (r .0))))
 
 -- the set leads to slot k: the search from there, and the search with what comes back
-pub record Step (w o : List ℕ) (f : ℕ) (a : List ℕ) (rest path set out k : ℕ) : Type 0 where
+pub record GrowthStep (w o : List ℕ) (f : ℕ) (a : List ℕ) (rest path set out k : ℕ) : Type 0 where
   pub below : k < 64
   pub held : bit f k ≡ 0
   pub fewer : unseen rest (bitOr path set) (2 ^ k) < unseen rest path set
@@ -108,7 +108,7 @@ module _ {w o : List ℕ} {f : ℕ} {a : List ℕ} {rest path set out : ℕ} (P 
     or-path : (i : ℕ) → i < 64 → bit (bitOr path set) i ≡ bit path i + bit set i
     or-path i h = omega (arith, bit-or path set i, P .inside i h, bit-lt rest i)
 
-    pub step : Step w o f a rest path set out k
+    pub step : GrowthStep w o f a rest path set out k
     step =
         record {
           below = below;
@@ -156,7 +156,7 @@ module _ {w o : List ℕ} {f : ℕ} {a : List ℕ} {rest path set out : ℕ} (P 
 
 -- ---- the turns of `grow`: the search has come to left, all and reach, and what it brings from there it brings for the whole
 
-pub record Turns (w o : List ℕ) (f rest path set out : ℕ) (a : List ℕ) (left all reach next : ℕ) : Type 0 where
+pub record GrowthTurns (w o : List ℕ) (f rest path set out : ℕ) (a : List ℕ) (left all reach next : ℕ) : Type 0 where
   pub growing : Growing w o f a left path all reach
   pub fewer : unseen left path all ≤ unseen rest path set
   pub left-fits : left < 2 ^ 64
@@ -165,14 +165,14 @@ pub record Turns (w o : List ℕ) (f rest path set out : ℕ) (a : List ℕ) (le
   pub whole : {a′ : List ℕ} {rest′ set′ out′ : ℕ} → Grown w o f left path all reach a′ rest′ set′ out′ → Grown w o f rest path set out a′ rest′ set′ out′
 
 pub turns-start : {w o : List ℕ} {f rest path set out next : ℕ} {a : List ℕ} → Growing w o f a rest path set out → rest < 2 ^ 64 → set < 2 ^ 64
-    → next ≡ minus (bitAnd rest out) set → Turns w o f rest path set out a rest set out next
+    → next ≡ minus (bitAnd rest out) set → GrowthTurns w o f rest path set out a rest set out next
 turns-start G hr hs e = record { growing = G; fewer = omega arith; left-fits = hr; all-fits = hs; next-is = e; whole = λ H. H }
 
 -- slot k has brought left′, set′ and out′
 pub turns-on : {w o : List ℕ} {f rest path set out left all reach next next′ k left′ set′ out′ : ℕ} {a a′ : List ℕ}
-    → Turns w o f rest path set out a left all reach next → Step w o f a left path all reach k
+    → GrowthTurns w o f rest path set out a left all reach next → GrowthStep w o f a left path all reach k
     → Grown w o f left (bitOr path all) (2 ^ k) (getD w (own o k) 0) a′ left′ set′ out′ → left′ < 2 ^ 64 → set′ < 2 ^ 64
-    → next′ ≡ minus (bitAnd left′ (bitOr reach out′)) (bitOr all set′) → Turns w o f rest path set out a′ left′ (bitOr all set′) (bitOr reach out′) next′
+    → next′ ≡ minus (bitAnd left′ (bitOr reach out′)) (bitOr all set′) → GrowthTurns w o f rest path set out a′ left′ (bitOr all set′) (bitOr reach out′) next′
 turns-on {all = all} {reach = reach} {set′ = set′} {out′ = out′} T S G hl hs e =
     let r = S .again G in
     record {

@@ -17,7 +17,7 @@ pub record Saturating (w o : List ℕ) (f : ℕ) : Type 0 where
   pub complete : Complete w o slot f
 
 -- for each item the slots that the complete plans give it
-pub record Allowed (w r : List ℕ) : Type 0 where
+pub record AllowedTable (w r : List ℕ) : Type 0 where
   pub sized : length r ≡ 64
   pub word : (x : ℕ) → x < length w → getD r x 0 ≡ allowedWord 64 w x
   pub zeros : (x : ℕ) → length w ≤ x → x < 64 → getD r x 0 ≡ 0

@@ -5,7 +5,7 @@ ghost use mathlib.Core.Path.{_≡_};
 ghost use Prim.Native.Nat.{_≤_};
 ghost use lib.ListN.{length};
 ghost use Rattle.augment.specs.Table.{Owners};
-ghost use Rattle.components.specs.Component.{Saturating, Allowed, Growing, Grown, Marked};
+ghost use Rattle.components.specs.Component.{Saturating, AllowedTable, Growing, Grown, Marked};
 
 // The slots that are not finished yet; and a set that leads back into the path, with the slots that it leads to. Both are empty if
 // the component is finished.
@@ -84,7 +84,7 @@ fn grow(
 // none, the search goes to every slot all the same.
 pub fn allowed_words(opens: &[u64], owner: &[u8; 64], free: u64) -> [u64; 64]
     requires { ⌜ Saturating (now opens) (now owner) free ⌝ }
-    ensures { λ r. ⌜ Allowed (now (opens .entry)) r ⌝ }
+    ensures { λ r. ⌜ AllowedTable (now (opens .entry)) r ⌝ }
 {
     let mut allowed = [0u64; 64];
     let all = words::low(64);
@@ -95,7 +95,7 @@ pub fn allowed_words(opens: &[u64], owner: &[u8; 64], free: u64) -> [u64; 64]
 // The same from the open words alone; zeros where there is no plan.
 pub fn allowed_slots(opens: &[u64]) -> [u64; 64]
     requires { ⌜ length (now opens) ≤ 64 ⌝ }
-    ensures { λ r. ⌜ Allowed (now (opens .entry)) r ⌝ }
+    ensures { λ r. ⌜ AllowedTable (now (opens .entry)) r ⌝ }
 {
     let mut owner = [0u8; 64];
     let mut slot = [0u8; 64];

@@ -7,10 +7,10 @@ use native.Mathlib.Omega.{arith}
 use native.Mathlib.Decide.{decLt}
 use lib.ListN.{length, getD}
 use Rattle.words.proofs.Bits.{bit-empty}
-use Rattle.model.specs.declared.PlanAnswer.{PlanAnswer}
-use Rattle.model.specs.Plans.{plans, IsPlan}
-use Rattle.model.specs.Answers.{firstOf, given}
-use Rattle.model.proofs.Order.{Before, before-total, before-place}
+use Rattle.model.specs.Plans.{IsPlan}
+use Rattle.model.specs.PlanAnswers.{firstFrom, given}
+use Rattle.model.specs.Lists.{Before}
+use Rattle.model.proofs.Order.{before-trichotomy, before-place}
 use Rattle.model.proofs.Laws.{first-of, first-of-none}
 use Rattle.augment.specs.Table.{at, Complete}
 use Rattle.maximum.specs.Maximum.{Filled, deficientBy}
@@ -35,7 +35,7 @@ whole-settleable w o p f C =
 -- ---- a plan that gives the items before `from` the same slots is the settled one, or comes after it
 
 pub settled-before : (w p : List ℕ) (from : ℕ) (r : List ℕ) → Settled w p from r → (q : List ℕ) → IsPlan w q → Same-to q r from → (q ≡ r) ⊎ Before r q
-settled-before w p from r S q Q A = go (before-total q r (Q .sized ∙ sym (S .plan .sized)))
+settled-before w p from r S q Q A = go (before-trichotomy q r (Q .sized ∙ sym (S .plan .sized)))
   where
     -- q can't come first: at the first place at which they differ r is least
     not-first : Before q r → ⊥
@@ -57,9 +57,8 @@ settled-before w p from r S q Q A = go (before-total q r (Q .sized ∙ sym (S .p
 
 module _ (w : List ℕ) (few : length w ≤ 64) (range : (x : ℕ) → x < length w → getD w x 0 < 2 ^ 64) where
   pub first-found : (p r : List ℕ) → Settled w p 0 r
-      → _≡_ {A = PlanAnswer} (record { code = 0; shortage = 0; items = 0; callouts = 0; plan = record { slots = r } }) (firstOf w (plans 64 w))
-  unfolding given
+      → given r 0 ≡ firstFrom 64 w
   first-found p r S = sym (first-of 64 w few range r (S .plan) (λ q Q. settled-before w p 0 r S q Q (λ l h. absurd (omega arith))))
 
-  pub first-none : (o p : List ℕ) (f e d : ℕ) → Filled w o p f e d → e ≢ 0 → deficientBy o e d ≡ firstOf w (plans 64 w)
+  pub first-none : (o p : List ℕ) (f e d : ℕ) → Filled w o p f e d → e ≢ 0 → deficientBy o e d ≡ firstFrom 64 w
   first-none o p f e d F some = deficient-answer w o p f e d F ∙ sym (first-of-none 64 w few range (exposed-no-plan w o p f e d F some))

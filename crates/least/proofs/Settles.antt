@@ -14,11 +14,11 @@ use Rattle.words.proofs.Bits.{bit-lt, bit-empty, bit-and, bit-or, bit-minus, bi
 use Rattle.words.proofs.SetLaws.{bit-with-le}
 use Rattle.model.specs.Plans.{IsPlan}
 use Rattle.augment.specs.Table.{own, at, Matched, Complete}
-use Rattle.augment.specs.Search.{Within}
+use Rattle.augment.specs.Search.{Within, Agrees}
 use Rattle.augment.proofs.Moves.{same-or}
-use Rattle.augment.proofs.Bars.{Shut, Agrees, slot-lt}
+use Rattle.augment.proofs.Bars.{Shut, slot-lt}
 use Rattle.augment.proofs.Completes.{complete-plan}
-use Rattle.least.specs.Least.{Fixed, Lowerable, Lowered, After, Prefix, Minimizable, Settleable, Same-to, Settled}
+use Rattle.least.specs.Least.{Fixed, Lowerable, Lowered, LaterWithin, Prefix, Minimizable, Settleable, Same-to, Settled}
 use Rattle.least.proofs.Shifts.{own-slot, held-without, closed-bars}
 
 -- ---- later: from the last item down to i
@@ -27,7 +27,7 @@ pub record Gathered (w : List ℕ) (table : List ℕ) (all i : ℕ) : Type 0 whe
   pub size : length table ≡ 64
   pub within : i ≤ length w
   pub open-words : (y : ℕ) → i ≤ y → y < length w → Within (getD w y 0) all
-  pub words : (x : ℕ) → i ≤ x → x < length w → After w x (getD table x 0)
+  pub words : (x : ℕ) → i ≤ x → x < length w → LaterWithin w x (getD table x 0)
 
 pub gathered-start : (w table : List ℕ) → length table ≡ 64 → Gathered w table 0 (length w)
 gathered-start w table e = record { size = e; within = omega arith; open-words = λ y h g. absurd (omega arith); words = λ x h g. absurd (omega arith) }
@@ -215,7 +215,7 @@ settling-end w p₀ from o p f fixed i S h =
     record { plan = complete-plan w o p f (S .before .complete); same = S .same; least = λ x l g. S .least x l (omega (arith, S .high)) }
 
 module _ (w p₀ : List ℕ) (from : ℕ) (o p : List ℕ) (f fixed i : ℕ) (S : Settling w p₀ from o p f fixed i) (more : i < length w) where
-  pub settling-minimizable : {after : ℕ} → After w i after → Minimizable w o p f i after fixed
+  pub settling-minimizable : {after : ℕ} → LaterWithin w i after → Minimizable w o p f i after fixed
   settling-minimizable A = record { before = S .before; known = more; later = A }
 
   module _ (o′ p′ : List ℕ) (f′ k : ℕ) (H : Lowered w o i (getD w i 0) fixed o′ p′ f′ k) where

@@ -9,9 +9,9 @@ use Rattle.words.specs.Word.{bit, with, minus, low}
 use Rattle.words.proofs.Bits.{bit-lt, bit-empty, bit-and, bit-minus, bit-low, bit-low-high, bit-with-other}
 use Rattle.model.specs.Plans.{IsPlan}
 use Rattle.augment.specs.Table.{own, at, Matched, Complete}
-use Rattle.augment.specs.Search.{Assignable, Assigned, Barred, Same}
+use Rattle.augment.specs.Search.{Assignable, Assigned, Barred, Same, Agrees}
 use Rattle.augment.proofs.Moves.{same-or}
-use Rattle.augment.proofs.Bars.{Shut, Agrees, slot-lt, barred}
+use Rattle.augment.proofs.Bars.{Shut, slot-lt, barred}
 use Rattle.augment.proofs.Completes.{leave-table, leave-exposed, take-complete}
 use Rattle.least.specs.Least.{Fixed, Shiftable, Shifted, Stuck, Lowerable, Lowered}
 

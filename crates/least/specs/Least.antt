@@ -9,7 +9,7 @@ use Rattle.words.specs.Word.{bit}
 use Rattle.model.specs.Plans.{IsPlan}
 use Rattle.augment.specs.Table.{own, at, Complete}
 use Rattle.augment.specs.Search.{Within}
-use Rattle.augment.proofs.Bars.{Agrees}
+use Rattle.augment.specs.Search.{Agrees}
 
 -- the slots of `fixed` are held by other items than x
 pub record Fixed (w o p : List ℕ) (f x fixed : ℕ) : Type 0 where
@@ -54,12 +54,12 @@ pub record Lowered (w o : List ℕ) (x may fixed : ℕ) (o′ p′ : List ℕ) (
 -- ---- minimize
 
 -- the slots open to the items after x
-abbrev pub After : List ℕ → ℕ → ℕ → Type 0
-After w x after = (y : ℕ) → x < y → y < length w → Within (getD w y 0) after
+abbrev pub LaterWithin : List ℕ → ℕ → ℕ → Type 0
+LaterWithin w x after = (y : ℕ) → x < y → y < length w → Within (getD w y 0) after
 
 -- such a word for each item from `from` on
 abbrev pub Later : List ℕ → ℕ → List ℕ → Type 0
-Later w from table = (x : ℕ) → from ≤ x → x < length w → After w x (getD table x 0)
+Later w from table = (x : ℕ) → from ≤ x → x < length w → LaterWithin w x (getD table x 0)
 
 -- `fixed` are the slots of the items before x
 pub record Prefix (w o p : List ℕ) (f x fixed : ℕ) : Type 0 where
@@ -71,7 +71,7 @@ pub record Prefix (w o p : List ℕ) (f x fixed : ℕ) : Type 0 where
 pub record Minimizable (w o p : List ℕ) (f x after fixed : ℕ) : Type 0 where
   pub before : Prefix w o p f x fixed
   pub known : x < length w
-  pub later : After w x after
+  pub later : LaterWithin w x after
 
 -- ---- settle
 

@@ -5,12 +5,10 @@ ghost use mathlib.Core.Logic.{_≢_};
 ghost use Prim.Native.Nat.{_^_, _≤_, _<_};
 ghost use lib.Bits.{bitAnd, bitOr};
 ghost use lib.ListN.{length, getD};
-ghost use Rattle.model.specs.Plans.{plans};
-ghost use Rattle.model.specs.Answers.{firstOf};
+ghost use Rattle.model.specs.PlanAnswers.{firstFrom};
 ghost use Rattle.augment.specs.Search.{Same};
 ghost use Rattle.least.specs.Least.{Shiftable, Shifted, Stuck, Lowerable, Lowered, Later, Minimizable, Settleable, Settled};
 use augment::Found;
-use model::Plan;
 use model::PlanAnswer;
 
 // Item x moves to a slot of `cand` if that is possible with the slots of `fixed` left to their holders.
@@ -135,7 +133,7 @@ pub fn settle(
 // The first plan; or 9 with the deficient set and the deficiency.
 pub fn first_plan(opens: &[u64]) -> PlanAnswer
     requires { ⌜ length (now opens) ≤ 64 ⌝ }
-    ensures { λ r. ⌜ r ≡ firstOf (now (opens .entry)) (plans 64 (now (opens .entry))) ⌝ }
+    ensures { λ r. ⌜ r ≡ firstFrom 64 (now (opens .entry)) ⌝ }
 {
     let mut owner = [0u8; 64];
     let mut slot = [0u8; 64];
@@ -149,13 +147,7 @@ pub fn first_plan(opens: &[u64]) -> PlanAnswer
     let exposed = m.exposed;
     if exposed == 0 {
         settle(opens, &mut owner, &mut slot, m.free, 0, 0);
-        return PlanAnswer {
-            code: 0,
-            shortage: 0,
-            items: 0,
-            callouts: 0,
-            plan: Plan { slots: slot },
-        };
+        return answers::given(slot, 0);
     }
     maximum::no_plan(&owner, exposed, m.dead)
 }

@@ -14,10 +14,11 @@ use Rattle.words.specs.Word.{bit, without, minus, with, lowest}
 use Rattle.words.proofs.Bits.{ext, bit-lt, bit-empty, bit-and, bit-or, bit-minus, with-lt}
 use Rattle.words.proofs.SetLaws.{ones-or-and, ones-minus, ones-none, ones-subset, subset-eq, empty, minus-le, bit-with-max}
 use Rattle.words.proofs.Walk.{Walk, Turn, walk, turn}
-use Rattle.model.specs.Plans.{blank, IsPlan}
-use Rattle.model.specs.Answers as answers
+use Rattle.model.specs.Plans.{IsPlan}
+use Rattle.model.specs.PlanAnswers.{short, noPlan}
 use Rattle.model.specs.Deficiency.{neighbours, shortBy, deficiency, deficientSet}
-use Rattle.model.proofs.Sets.{image, image-into, image-from, image-lt, ones-image, image-pick}
+use Rattle.model.specs.Sets.{image}
+use Rattle.model.proofs.Sets.{image-into, image-from, image-lt, ones-image, image-pick}
 use Rattle.model.proofs.Deficiency.{neighbours-into, neighbours-from, neighbours-lt, plan-none-short, deficiency-by, deficient-set-by}
 use Rattle.augment.specs.Table.{own, at, cell, Matched, Complete}
 use Rattle.augment.specs.Search.{Within}
@@ -217,10 +218,9 @@ module _ (w o p : List ℕ) (f e d : ℕ) (F : Filled w o p f e d) where
       (λ z. omega (arith, ap (λ v. bit v x) (none-dead z), bit-empty x))
       (λ m. within set h m (s ∙ short-is) x))
 
-  pub deficient-answer : deficientBy o e d ≡ answers.deficient w
-  unfolding deficientBy answers.deficient
-  deficient-answer =
-      ap₂ (λ s t. record { code = 9; shortage = s; items = t; callouts = 0; plan = record { slots = blank } }) (sym deficiency-is) (sym deficient-set-is)
+  pub deficient-answer : deficientBy o e d ≡ noPlan w
+  unfolding noPlan
+  deficient-answer = ap₂ short (sym deficiency-is) (sym deficient-set-is)
 
   -- with an item exposed there is no plan, with none the table is complete (Hall)
   pub exposed-no-plan : e ≢ 0 → (q : List ℕ) → IsPlan w q → ⊥

@@ -1,3 +1,4 @@
 pub mod Filling
 pub mod Deficient
+pub mod Hall
 mod Refilling

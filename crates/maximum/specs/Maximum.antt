@@ -8,8 +8,8 @@ use lib.Count.{ones}
 use lib.ListN.{length, getD}
 use Rattle.words.specs.Word.{bit}
 use Rattle.model.specs.declared.PlanAnswer.{PlanAnswer}
-use Rattle.model.specs.Plans.{blank}
-use Rattle.model.proofs.Sets.{image}
+use Rattle.model.specs.Sets.{image}
+use Rattle.model.specs.PlanAnswers.{short}
 use Rattle.augment.specs.Table.{own, Table, Matched, Exposed}
 use Rattle.augment.specs.Search.{Within}
 
@@ -54,5 +54,5 @@ unfolding image
 holders o set = image (own o) 64 set
 
 -- the answer 9, from a maximum matching
-unfoldable pub deficientBy : List ℕ → ℕ → ℕ → PlanAnswer
-deficientBy o e d = record { code = 9; shortage = ones e; items = bitOr e (holders o d); callouts = 0; plan = record { slots = blank } }
+abbrev pub deficientBy : List ℕ → ℕ → ℕ → PlanAnswer
+deficientBy o e d = short (ones e) (bitOr e (holders o d))

@@ -8,7 +8,6 @@ ghost use Rattle.words.specs.Word.{bit};
 ghost use Rattle.model.specs.Deficiency.{neighbours};
 ghost use Rattle.augment.specs.Table.{own};
 ghost use Rattle.maximum.specs.Maximum.{Fillable, Filled, Refillable, holders, deficientBy};
-use model::Plan;
 use model::PlanAnswer;
 
 // The free slots, the exposed items, and the dead slots: those that no item may use in any matching that serves more.
@@ -119,11 +118,8 @@ pub fn no_plan(owner: &[u8; 64], exposed: u64, dead: u64) -> PlanAnswer
     requires { ⌜ (length (now owner) ≡ 64) × ((k : ℕ) → k < 64 → bit dead k ≡ 1 → own (now owner) k < 64) ⌝ }
     ensures { λ r. ⌜ r ≡ deficientBy (now (owner .entry)) exposed dead ⌝ }
 {
-    PlanAnswer {
-        code: 9,
-        shortage: words::size(exposed) as u32,
-        items: deficient_set(owner, exposed, dead),
-        callouts: 0,
-        plan: Plan { slots: [255u8; 64] },
-    }
+    answers::short(
+        words::size(exposed) as u32,
+        deficient_set(owner, exposed, dead),
+    )
 }

@@ -15,9 +15,9 @@ use Rattle.words.specs.Sum.{sum}
 use Rattle.words.proofs.Bits.{bit-lt, bit-one-lt}
 use Rattle.words.proofs.Sums.{sum-cong, sum-le, sum-lt, sum-add, sum-permutation}
 use Rattle.model.specs.declared.PlanAnswer.{PlanAnswer}
-use Rattle.model.specs.Plans.{blank, IsPlan}
-use Rattle.model.specs.Fewest.{calloutsOf, fewest, fewestPlans}
-use Rattle.model.specs.Answers.{given, overCap, fewestOf}
+use Rattle.model.specs.Plans.{IsPlan}
+use Rattle.model.specs.Fewest.{calloutsOf}
+use Rattle.model.specs.PlanAnswers.{given, overCap, fewestFrom}
 use Rattle.model.proofs.Plans.{plan-across}
 use Rattle.model.proofs.Laws.{callouts-le, fewest-of, fewest-of-none}
 use Rattle.augment.specs.Table.{at, cell}
@@ -118,7 +118,7 @@ module _ {w c : List ℕ} (S : Square w c) {u v : ℕ → ℕ} {r : ℕ} (D : Du
 
 module _ {w c : List ℕ} (S : Square w c) (cap : ℕ) where
   abbrev Answer : PlanAnswer → Type 0
-  Answer a = a ≡ fewestOf w cap (fewest 64 w c) (fewestPlans 64 w c)
+  Answer a = a ≡ fewestFrom 64 w c cap
 
   pub answer-none : (o p : List ℕ) (f e d : ℕ) → Filled w o p f e d → e ≢ 0 → Answer (deficientBy o e d)
   answer-none o p f e d F some =
@@ -134,10 +134,8 @@ module _ {w c : List ℕ} (S : Square w c) (cap : ℕ) where
         ∙ ap (λ z. cond (leb z cap) (given p z) (overCap z)) (sym (C .number))
         ∙ sym (fewest-of 64 w (S .few) (open-range S) c p (C .plan) (λ q Q. omega (arith, C .number, C .fewer q Q)) (λ q Q x. C .first q Q (x ∙ C .number)) cap)
 
-    pub answer-within : r ≤ cap → Answer (record { code = 0; shortage = 0; items = 0; callouts = r; plan = record { slots = p } })
-    unfolding given
+    pub answer-within : r ≤ cap → Answer (given p r)
     answer-within h = answer-by true (le-leb r cap h)
 
-    pub answer-over : cap < r → Answer (record { code = 11; shortage = 0; items = 0; callouts = r; plan = record { slots = blank } })
-    unfolding overCap
+    pub answer-over : cap < r → Answer (overCap r)
     answer-over h = answer-by false (lt-leb r cap h)

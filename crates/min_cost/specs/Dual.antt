@@ -9,7 +9,7 @@ use lib.ListN.{length, getD}
 use Rattle.words.specs.Word.{bit, select}
 use Rattle.model.specs.Plans.{IsPlan}
 use Rattle.model.specs.Fewest.{calloutsOf}
-use Rattle.model.proofs.Order.{Before}
+use Rattle.model.specs.Lists.{Before}
 
 -- as many slots as items
 pub record Square (w c : List ℕ) : Type 0 where

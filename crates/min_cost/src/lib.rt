@@ -6,10 +6,8 @@ ghost use mathlib.Core.List.{List};
 ghost use Prim.Native.Nat.{ℕ};
 ghost use lib.ListN.{length};
 ghost use Rattle.model.specs.Plans.{IsPlan};
-ghost use Rattle.model.specs.Fewest.{fewest, fewestPlans};
-ghost use Rattle.model.specs.Answers.{fewestOf};
+ghost use Rattle.model.specs.PlanAnswers.{fewestFrom};
 ghost use Rattle.min_cost.specs.Dual.{Square, Lifted, Raisable, Raised, Cheapest};
-use model::Plan;
 use model::PlanAnswer;
 
 // A plan with the fewest callouts, and their number.
@@ -85,7 +83,7 @@ fn cheapest(opens: &[u64], callouts: &[u64], tight: &mut [u64]) -> Cheap
 // The first of the plans with the fewest callouts; 9 without a plan, or 11 if that number is above the cap.
 pub fn fewest_plan(opens: &[u64], callouts: &[u64], cap: u32) -> PlanAnswer
     requires { ⌜ Square (now opens) (now callouts) ⌝ }
-    ensures { λ r. ⌜ r ≡ fewestOf (now (opens .entry)) cap (fewest 64 (now (opens .entry)) (now (callouts .entry))) (fewestPlans 64 (now (opens .entry)) (now (callouts .entry))) ⌝ }
+    ensures { λ r. ⌜ r ≡ fewestFrom 64 (now (opens .entry)) (now (callouts .entry)) cap ⌝ }
 {
     let n = opens.len();
     let mut owner = [0u8; 64];
@@ -100,19 +98,7 @@ pub fn fewest_plan(opens: &[u64], callouts: &[u64], cap: u32) -> PlanAnswer
     let number = r.number as u32;
     if number <= cap {
         let slots = r.slots;
-        return PlanAnswer {
-            code: 0,
-            shortage: 0,
-            items: 0,
-            callouts: number,
-            plan: Plan { slots: slots },
-        };
+        return answers::given(slots, number);
     }
-    PlanAnswer {
-        code: 11,
-        shortage: 0,
-        items: 0,
-        callouts: number,
-        plan: Plan { slots: [255u8; 64] },
-    }
+    answers::over_cap(number)
 }

@@ -180,7 +180,8 @@ module _ (opens : List ℕ) (x : ℕ) (h : x < 2 ^ length opens) (most : (y : �
   deficiency-by =
       greatest-is (shortBy opens) (below (2 ^ length opens)) x (below-into (2 ^ length opens) h) (λ y l. most y (below-from (2 ^ length opens) l))
 
-  pub deficient-set-by : ((y : ℕ) → y < 2 ^ length opens → shortBy opens y ≡ shortBy opens x → (i : ℕ) → i < length opens → bit x i ≤ bit y i) → deficientSet opens ≡ x
+  pub deficient-set-by : ((y : ℕ) → y < 2 ^ length opens → shortBy opens y ≡ shortBy opens x → (i : ℕ) → i < length opens → bit x i ≤ bit y i)
+      → deficientSet opens ≡ x
   deficient-set-by within =
       let n = length opens in
       let g = deficient-greatest opens in

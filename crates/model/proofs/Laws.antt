@@ -11,15 +11,14 @@ use lib.ListN.{length, getD}
 use Rattle.words.specs.Word.{bit}
 use Rattle.words.proofs.Bits.{bit-lt}
 use Rattle.words.proofs.Sums.{sum-const, sum-le}
-use Rattle.model.specs.declared.Plan.{Plan}
-use Rattle.model.specs.Lists.{keep, same, before}
+use Rattle.model.specs.Lists.{keep, same, before, Before}
 use Rattle.model.specs.Rota.{tableCode}
 use Rattle.model.specs.Plans.{plans, isPlan, plansAfter, IsPlan}
 use Rattle.model.specs.Fewest.{calloutsOf, fewest, fewestPlans}
 use Rattle.model.specs.Count.{count}
-use Rattle.model.specs.Answers.{unless, refused, deficient, overCap, given, firstOf, firstAnswer, nextOf, nextAnswer, fewestOf, fewestAnswer}
+use Rattle.model.specs.PlanAnswers.{refused, noPlan, overCap, given, firstOf, firstFrom, nextOf, nextFrom, fewestOf, fewestFrom}
 use Rattle.model.proofs.Members.{is-true, is-false, same-refl, same-eq, keep-from, keep-into, any-into, any-from, place-of}
-use Rattle.model.proofs.Order.{Before, chain-keep, least-is-head}
+use Rattle.model.proofs.Order.{chain-keep, least-is-head}
 use Rattle.model.proofs.Extremes.{least-is}
 use Rattle.model.proofs.Accepted.{accepted}
 use Rattle.model.proofs.Plans.{plans-rise, plan-from, plan-into}
@@ -75,12 +74,12 @@ module _ (m : ℕ) (opens : List ℕ) (few : length opens ≤ 64) (range : (i : 
 
   -- ---- first
 
-  pub first-of-none : ((p : List ℕ) → IsPlan opens p → ⊥) → firstOf opens (plans m opens) ≡ deficient opens
-  unfolding firstOf
+  pub first-of-none : ((p : List ℕ) → IsPlan opens p → ⊥) → firstFrom m opens ≡ noPlan opens
+  unfolding firstFrom firstOf
   first-of-none f = ap (firstOf opens) (no-plans f)
 
-  pub first-of : (p : List ℕ) → IsPlan opens p → IsLeast opens p → firstOf opens (plans m opens) ≡ given p 0
-  unfolding firstOf
+  pub first-of : (p : List ℕ) → IsPlan opens p → IsLeast opens p → firstFrom m opens ≡ given p 0
+  unfolding firstFrom firstOf
   first-of p P f = ap (firstOf opens) (least-is-head (plans m opens) p (plans-rise m opens) (into p P) (λ q h. f q (from q h)) .1)
 
   -- ---- next
@@ -88,6 +87,16 @@ module _ (m : ℕ) (opens : List ℕ) (few : length opens ≤ 64) (range : (i : 
   after-from : (g p : List ℕ) → List·Memᴰ p (plansAfter m opens g) → IsPlan opens p × Before g p
   unfolding plansAfter
   after-from g p h = let r = keep-from (before g) (plans m opens) h in (from p (r .0), r .1)
+
+  next-by : (g : List ℕ) (b : Bool) → isPlan m opens g ≡ b → nextFrom m opens g ≡ cond b (nextOf (plansAfter m opens g)) (refused 8)
+  unfolding nextFrom
+  next-by g b e = ap (λ b. cond b (nextOf (plansAfter m opens g)) (refused 8)) e
+
+  pub next-no-plan : (g : List ℕ) → (IsPlan opens g → ⊥) → nextFrom m opens g ≡ refused 8
+  next-no-plan g f = next-by g false (is-no-plan g f)
+
+  pub next-at : (g : List ℕ) → IsPlan opens g → nextFrom m opens g ≡ nextOf (plansAfter m opens g)
+  next-at g G = next-by g true (is-plan g G)
 
   pub next-of-none : (g : List ℕ) → ((p : List ℕ) → IsPlan opens p → Before g p → ⊥) → nextOf (plansAfter m opens g) ≡ refused 10
   unfolding nextOf
@@ -104,8 +113,8 @@ module _ (m : ℕ) (opens : List ℕ) (few : length opens ≤ 64) (range : (i : 
   -- ---- fewest callouts
 
   pub fewest-of-none : (callouts : List ℕ) (cap : ℕ) → ((p : List ℕ) → IsPlan opens p → ⊥)
-      → fewestOf opens cap (fewest m opens callouts) (fewestPlans m opens callouts) ≡ deficient opens
-  unfolding fewestOf fewestPlans keep
+      → fewestFrom m opens callouts cap ≡ noPlan opens
+  unfolding fewestFrom fewestOf fewestPlans keep
   fewest-of-none callouts cap f =
       ap (λ l. fewestOf opens cap (fewest m opens callouts) (keep (λ p. eqb (calloutsOf callouts p) (fewest m opens callouts)) l)) (no-plans f)
 
@@ -125,12 +134,12 @@ module _ (m : ℕ) (opens : List ℕ) (few : length opens ≤ 64) (range : (i : 
           let r = keep-from test (plans m opens) h in
           f q (from q (r .0)) (eqb→eq (calloutsOf callouts q) (fewest m opens callouts) (r .1) ∙ fewest-is))
 
-      pub fewest-of : (cap : ℕ) → fewestOf opens cap (fewest m opens callouts) (fewestPlans m opens callouts)
-          ≡ cond (leb (calloutsOf callouts p) cap) (given p (calloutsOf callouts p)) (overCap (calloutsOf callouts p))
-      unfolding fewestOf
+      pub fewest-of : (cap : ℕ)
+          → fewestFrom m opens callouts cap ≡ cond (leb (calloutsOf callouts p) cap) (given p (calloutsOf callouts p)) (overCap (calloutsOf callouts p))
+      unfolding fewestFrom fewestOf
       fewest-of cap = ap₂ (fewestOf opens cap) fewest-is (fewest-head .1)
 
--- ---- the answers, of accepted tables
+-- ---- of accepted tables
 
 module _ (n m : ℕ) (opens callouts : List ℕ) (ok : tableCode n m opens callouts ≡ 0) where
   pub few : length opens ≤ 64
@@ -138,40 +147,3 @@ module _ (n m : ℕ) (opens callouts : List ℕ) (ok : tableCode n m opens callo
 
   pub range : (i : ℕ) → i < length opens → getD opens i 0 < 2 ^ m
   range i h = let A = accepted n m opens callouts ok in A .open-range i (omega (arith, A .open-words))
-
-  pub first-none : ((p : List ℕ) → IsPlan opens p → ⊥) → firstAnswer n m opens callouts ≡ deficient opens
-  unfolding firstAnswer unless
-  first-none f = ap (λ c. unless c (firstOf opens (plans m opens))) ok ∙ first-of-none m opens few range f
-
-  pub first-is : (p : List ℕ) → IsPlan opens p → IsLeast opens p → firstAnswer n m opens callouts ≡ given p 0
-  unfolding firstAnswer unless
-  first-is p P f = ap (λ c. unless c (firstOf opens (plans m opens))) ok ∙ first-of m opens few range p P f
-
-  next-by : (g : Plan) (b : Bool) → isPlan m opens (g .slots) ≡ b
-      → nextAnswer n m opens callouts g ≡ cond b (nextOf (plansAfter m opens (g .slots))) (refused 8)
-  unfolding nextAnswer unless
-  next-by g b e =
-      ap (λ c. unless c (cond (isPlan m opens (g .slots)) (nextOf (plansAfter m opens (g .slots))) (refused 8))) ok
-      ∙ ap (λ b. cond b (nextOf (plansAfter m opens (g .slots))) (refused 8)) e
-
-  pub next-no-plan : (g : Plan) → (IsPlan opens (g .slots) → ⊥) → nextAnswer n m opens callouts g ≡ refused 8
-  next-no-plan g f = next-by g false (is-no-plan m opens few range (g .slots) f)
-
-  pub next-none : (g : Plan) → IsPlan opens (g .slots) → ((p : List ℕ) → IsPlan opens p → Before (g .slots) p → ⊥) → nextAnswer n m opens callouts g ≡ refused 10
-  next-none g G f = next-by g true (is-plan m opens few range (g .slots) G) ∙ next-of-none m opens few range (g .slots) f
-
-  pub next-is : (g : Plan) (p : List ℕ) → IsPlan opens (g .slots) → IsPlan opens p → Before (g .slots) p
-      → ((q : List ℕ) → IsPlan opens q → Before (g .slots) q → (q ≡ p) ⊎ Before p q) → nextAnswer n m opens callouts g ≡ given p 0
-  next-is g p G P b f = next-by g true (is-plan m opens few range (g .slots) G) ∙ next-of m opens few range (g .slots) p P b f
-
-  fewest-unless : (cap : ℕ) → fewestAnswer n m opens callouts cap ≡ fewestOf opens cap (fewest m opens callouts) (fewestPlans m opens callouts)
-  unfolding fewestAnswer unless
-  fewest-unless cap = ap (λ c. unless c (fewestOf opens cap (fewest m opens callouts) (fewestPlans m opens callouts))) ok
-
-  pub fewest-none : (cap : ℕ) → ((p : List ℕ) → IsPlan opens p → ⊥) → fewestAnswer n m opens callouts cap ≡ deficient opens
-  fewest-none cap f = fewest-unless cap ∙ fewest-of-none m opens few range callouts cap f
-
-  pub fewest-answer : (cap : ℕ) (p : List ℕ) → IsPlan opens p → ((q : List ℕ) → IsPlan opens q → calloutsOf callouts p ≤ calloutsOf callouts q)
-      → ((q : List ℕ) → IsPlan opens q → calloutsOf callouts q ≡ calloutsOf callouts p → (q ≡ p) ⊎ Before p q)
-      → fewestAnswer n m opens callouts cap ≡ cond (leb (calloutsOf callouts p) cap) (given p (calloutsOf callouts p)) (overCap (calloutsOf callouts p))
-  fewest-answer cap p P fewer f = fewest-unless cap ∙ fewest-of m opens few range callouts p P fewer f cap

@@ -7,8 +7,10 @@ pub mod Plans
 pub mod Permanent
 pub mod Deficiency
 pub mod Allowed
+pub mod Fewest
 pub mod Laws
 pub mod Refusals
+pub mod Codes
 pub mod Slots
 pub mod Listing
 pub mod Ways
@@ -16,3 +18,4 @@ pub mod Subsets
 pub mod Parts
 pub mod FileBlocks
 pub mod Files
+pub mod RoundTrips

@@ -2,7 +2,8 @@
 use mathlib.Core.Path.{_≡_, refl, sym, ap, ap₂, _∙_, subst}
 use mathlib.Core.Logic.{_≢_, _⊎_, inl, inr, ⊎-elim}
 use mathlib.Core.Bool.{Bool, true, false, not, cond, _&&_, _||_, and-eq-true-iff, and-assoc}
-use mathlib.Core.List.{List, [], _∷_, _++_, flatMap, List·Memᴰ, List·Memᴰ·head, List·Memᴰ·tail, List·Memᴰ·not-nil, List·Memᴰ·cases-cons, List·Memᴰ·append-cases, Memᴰ·append-left, Memᴰ·append-right}
+use mathlib.Core.List.{List, [], _∷_, _++_, flatMap, List·Memᴰ, List·Memᴰ·head, List·Memᴰ·tail, List·Memᴰ·not-nil, List·Memᴰ·cases-cons, List·Memᴰ·append-cases}
+use mathlib.Core.List.{Memᴰ·append-left, Memᴰ·append-right}
 use Prim.Native.Nat.{ℕ, zero, suc, _+_, _<_, _≤_}
 use native.Mathlib.Nat.{suc-inj}
 use native.Mathlib.Omega.{arith}
@@ -76,7 +77,8 @@ module _ {A : Type 0} (f : A → Bool) where
   keep-from [] h = absurd (List·Memᴰ·not-nil h)
   keep-from {x} (y ∷ l) h = go (f y) refl (keep-from l) h
     where
-      go : (b : Bool) → f y ≡ b → (List·Memᴰ x (keep f l) → List·Memᴰ x l × T (f x)) → List·Memᴰ x (cond b (y ∷ keep f l) (keep f l)) → List·Memᴰ x (y ∷ l) × T (f x)
+      go : (b : Bool) → f y ≡ b → (List·Memᴰ x (keep f l) → List·Memᴰ x l × T (f x)) → List·Memᴰ x (cond b (y ∷ keep f l) (keep f l))
+          → List·Memᴰ x (y ∷ l) × T (f x)
       go true e ih h =
           ⊎-elim (λ q. (List·Memᴰ·head q, subst T (sym (ap f q ∙ e)) tt)) (λ m. (List·Memᴰ·tail (ih m .0), ih m .1)) (List·Memᴰ·cases-cons h)
       go false e ih h = (List·Memᴰ·tail (ih h .0), ih h .1)
@@ -139,7 +141,8 @@ module _ {A : Type 0} (f : A → Bool) where
       go false = refl
   any-more d (x ∷ l) (suc i) h = go (f x) (any-more d l i (omega arith))
     where
-      go : (b : Bool) → any f (take (suc i) l) ≡ (any f (take i l) || f (getD l i d)) → (b || any f (take (suc i) l)) ≡ ((b || any f (take i l)) || f (getD l i d))
+      go : (b : Bool) → any f (take (suc i) l) ≡ (any f (take i l) || f (getD l i d))
+          → (b || any f (take (suc i) l)) ≡ ((b || any f (take i l)) || f (getD l i d))
       go true e = refl
       go false e = e
 

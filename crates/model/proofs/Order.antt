@@ -2,7 +2,8 @@
 use mathlib.Core.Path.{_≡_, refl, sym, ap, ap₂, _∙_, subst}
 use mathlib.Core.Logic.{_⊎_, inl, inr, ⊎-elim}
 use mathlib.Core.Bool.{Bool, true, false, not, cond, _&&_}
-use mathlib.Core.List.{List, [], _∷_, _++_, map, flatMap, List·Memᴰ, List·Memᴰ·head, List·Memᴰ·tail, List·Memᴰ·not-nil, List·Memᴰ·cases-cons, List·Memᴰ·append-cases, Memᴰ·of-map}
+use mathlib.Core.List.{List, [], _∷_, _++_, map, flatMap, List·Memᴰ, List·Memᴰ·head, List·Memᴰ·tail, List·Memᴰ·not-nil, List·Memᴰ·cases-cons}
+use mathlib.Core.List.{List·Memᴰ·append-cases, Memᴰ·of-map}
 use Prim.Native.Nat.{ℕ, zero, suc, _+_, _<_}
 use native.Mathlib.Nat.{suc-inj}
 use native.Mathlib.Omega.{arith}
@@ -12,14 +13,11 @@ use lib.Dec.{T, eqb, ltb, eqb→eq, ltb→lt, lt→ltb}
 use lib.ListN.{length, getD, drop}
 use Rattle.words.specs.Sum.{upFrom, below}
 use Rattle.words.proofs.Sums.{upFrom-from}
-use Rattle.model.specs.Lists.{keep, remove, before}
+use Rattle.model.specs.Lists.{keep, remove, before, Before, Chain, Rising}
 use Rattle.model.specs.Plans.{arrangements}
 use Rattle.model.proofs.Members.{is-true, is-false, both, both-left, both-right, or-left, or-right, or-cases, keep-from, keep-all, flatMap-from, mem-at}
 
 -- ---- dictionary order
-
-abbrev pub Before : List ℕ → List ℕ → Type 0
-Before p q = T (before p q)
 
 module _ (x y : ℕ) (p q : List ℕ) where
   before-head : x < y → Before (x ∷ p) (y ∷ q)
@@ -54,13 +52,14 @@ pub before-irrefl : (p : List ℕ) → Before p p → ⊥
 before-irrefl p h = before-asym p p h h
 
 -- of two lists of one length one stands before the other, or they are the same
-pub before-total : (p q : List ℕ) → length p ≡ length q → (p ≡ q) ⊎ (Before p q ⊎ Before q p)
-before-total [] [] e = inl refl
-before-total [] (y ∷ q) e = absurd (omega arith)
-before-total (x ∷ p) [] e = absurd (omega arith)
-before-total (x ∷ p) (y ∷ q) e = go (decLt x y) (decLt y x) (before-total p q (suc-inj e))
+pub before-trichotomy : (p q : List ℕ) → length p ≡ length q → (p ≡ q) ⊎ (Before p q ⊎ Before q p)
+before-trichotomy [] [] e = inl refl
+before-trichotomy [] (y ∷ q) e = absurd (omega arith)
+before-trichotomy (x ∷ p) [] e = absurd (omega arith)
+before-trichotomy (x ∷ p) (y ∷ q) e = go (decLt x y) (decLt y x) (before-trichotomy p q (suc-inj e))
   where
-    go : Dec (x < y) → Dec (y < x) → (p ≡ q) ⊎ (Before p q ⊎ Before q p) → (_≡_ {A = List ℕ} (x ∷ p) (y ∷ q)) ⊎ (Before (x ∷ p) (y ∷ q) ⊎ Before (y ∷ q) (x ∷ p))
+    go : Dec (x < y) → Dec (y < x) → (p ≡ q) ⊎ (Before p q ⊎ Before q p)
+        → (_≡_ {A = List ℕ} (x ∷ p) (y ∷ q)) ⊎ (Before (x ∷ p) (y ∷ q) ⊎ Before (y ∷ q) (x ∷ p))
     go (yes h) d r = inr (inl (before-head x y p q h))
     go (no h) (yes k) r = inr (inr (before-head y x q p k))
     go (no h) (no k) (inl r) = let z : x ≡ y = omega arith in inl (ap₂ _∷_ z r)
@@ -103,27 +102,23 @@ before-place (x ∷ p) (y ∷ q) e h = go (before-place p q (suc-inj e)) (before
 -- ---- a list in which each member stands in a relation to all later ones
 
 module _ {A : Type 0} (R : A → A → Type 0) where
-  abbrev pub Chain : List A → Type 0
-  Chain [] = Unit {0}
-  Chain (x ∷ l) = ((y : A) → List·Memᴰ y l → R x y) × Chain l
-
-  chain-append : (l m : List A) → Chain l → Chain m → ((x y : A) → List·Memᴰ x l → List·Memᴰ y m → R x y) → Chain (l ++ m)
+  chain-append : (l m : List A) → Chain R l → Chain R m → ((x y : A) → List·Memᴰ x l → List·Memᴰ y m → R x y) → Chain R (l ++ m)
   chain-append [] m c d f = d
   chain-append (x ∷ l) m c d f = (
     λ y h. ⊎-elim (c .0 y) (λ k. f x y (List·Memᴰ·head refl) k) (List·Memᴰ·append-cases l h),
     chain-append l m (c .1) d (λ a b p q. f a b (List·Memᴰ·tail p) q),
   )
 
-  pub chain-keep : (f : A → Bool) (l : List A) → Chain l → Chain (keep f l)
+  pub chain-keep : (f : A → Bool) (l : List A) → Chain R l → Chain R (keep f l)
   unfolding keep
   chain-keep f [] c = tt
   chain-keep f (x ∷ l) c = go (f x) (chain-keep f l (c .1))
     where
-      go : (b : Bool) → Chain (keep f l) → Chain (cond b (x ∷ keep f l) (keep f l))
+      go : (b : Bool) → Chain R (keep f l) → Chain R (cond b (x ∷ keep f l) (keep f l))
       go true d = (λ y h. c .0 y (keep-from f l h .0), d)
       go false d = d
 
-  pub chain-at : (d : A) (l : List A) → Chain l → (i k : ℕ) → i < k → k < length l → R (getD l i d) (getD l k d)
+  pub chain-at : (d : A) (l : List A) → Chain R l → (i k : ℕ) → i < k → k < length l → R (getD l i d) (getD l k d)
   chain-at d [] c i k h g = absurd (omega arith)
   chain-at d (x ∷ l) c zero zero h g = absurd (omega arith)
   chain-at d (x ∷ l) c zero (suc k) h g = c .0 (getD l k d) (mem-at d l k (omega arith))
@@ -163,9 +158,6 @@ chain-remove s l c = chain-keep _<_ (λ x. not (eqb s x)) l c
 
 -- ---- lists of lists in rising order
 
-abbrev pub Rising : List (List ℕ) → Type 0
-Rising = Chain Before
-
 pub arrangements-rise : (k : ℕ) (slots : List ℕ) → Chain _<_ slots → Rising (arrangements k slots)
 unfolding arrangements
 arrangements-rise zero slots c = (λ y h. absurd (List·Memᴰ·not-nil h), tt)
@@ -178,11 +170,13 @@ arrangements-rise (suc k) slots c =
     subst (λ x. Before x q) (r .2) (subst (Before (s ∷ r .0)) (u .2) (before-head s t (r .0) (u .0) h)))
 
 -- the lists of one length padded in one way
-pub rising-map : (f : List ℕ → List ℕ) (l : List (List ℕ)) → ((p q : List ℕ) → List·Memᴰ p l → List·Memᴰ q l → Before p q → Before (f p) (f q)) → Rising l → Rising (map f l)
+pub rising-map : (f : List ℕ → List ℕ) (l : List (List ℕ)) → ((p q : List ℕ) → List·Memᴰ p l → List·Memᴰ q l → Before p q → Before (f p) (f q)) → Rising l
+    → Rising (map f l)
 rising-map f l g r = chain-map Before Before f l g r
 
 -- two lists in rising order with the same members are the same
-pub rising-same : (l m : List (List ℕ)) → Rising l → Rising m → ((z : List ℕ) → List·Memᴰ z l → List·Memᴰ z m) → ((z : List ℕ) → List·Memᴰ z m → List·Memᴰ z l) → l ≡ m
+pub rising-same : (l m : List (List ℕ)) → Rising l → Rising m → ((z : List ℕ) → List·Memᴰ z l → List·Memᴰ z m)
+    → ((z : List ℕ) → List·Memᴰ z m → List·Memᴰ z l) → l ≡ m
 rising-same [] [] r s f g = refl
 rising-same [] (y ∷ m) r s f g = absurd (List·Memᴰ·not-nil (g y (List·Memᴰ·head refl)))
 rising-same (x ∷ l) [] r s f g = absurd (List·Memᴰ·not-nil (f x (List·Memᴰ·head refl)))
@@ -202,7 +196,8 @@ rising-same (x ∷ l) (y ∷ m) r s f g =
         ⊎-elim (λ q. absurd (before-irrefl x (subst (Before x) (q ∙ sym e) (r z h)))) (λ k. k) (List·Memᴰ·cases-cons (f z (List·Memᴰ·tail h)))
 
 -- x is a member and no other stands before it: it is the first
-pub least-is-head : (l : List (List ℕ)) (x : List ℕ) → Rising l → List·Memᴰ x l → ((y : List ℕ) → List·Memᴰ y l → (y ≡ x) ⊎ Before x y) → (rest : List (List ℕ)) × (l ≡ x ∷ rest)
+pub least-is-head : (l : List (List ℕ)) (x : List ℕ) → Rising l → List·Memᴰ x l → ((y : List ℕ) → List·Memᴰ y l → (y ≡ x) ⊎ Before x y)
+    → (rest : List (List ℕ)) × (l ≡ x ∷ rest)
 least-is-head [] x r h f = absurd (List·Memᴰ·not-nil h)
 least-is-head (z ∷ l) x r h f = (l, ap (_∷ l) (go (f z (List·Memᴰ·head refl)) (List·Memᴰ·cases-cons h)))
   where

@@ -13,10 +13,10 @@ use Rattle.words.specs.Word.{bit, has}
 use Rattle.words.specs.Sum.{below}
 use Rattle.words.proofs.Bits.{has-in, has-bit, bit-one-lt}
 use Rattle.words.proofs.Sums.{below-into}
-use Rattle.model.specs.Lists.{remove}
-use Rattle.model.specs.Plans.{arrangements, fits, matchings, padded, plans, plansAfter, IsPlan}
+use Rattle.model.specs.Lists.{remove, Before, Rising}
+use Rattle.model.specs.Plans.{arrangements, cellsOpen, matchings, padded, plans, plansAfter, IsPlan}
 use Rattle.model.proofs.Members.{both, both-left, both-right, keep-from, keep-into, remove-from, remove-into, flatMap-from, flatMap-into}
-use Rattle.model.proofs.Order.{Before, Rising, chain-keep, chain-below, arrangements-rise, rising-map, before-append, after-member}
+use Rattle.model.proofs.Order.{chain-keep, chain-below, arrangements-rise, rising-map, before-append, after-member}
 
 -- ---- the arrangements: so long, of the slots at hand, none twice
 
@@ -67,27 +67,27 @@ arrangements-into (suc k) slots (s ∷ q) a =
 
 -- ---- open cells
 
-pub fits-length : (opens p : List ℕ) → T (fits opens p) → length p ≡ length opens
-unfolding fits
-fits-length [] [] t = refl
-fits-length [] (s ∷ p) t = absurd t
-fits-length (w ∷ opens) [] t = absurd t
-fits-length (w ∷ opens) (s ∷ p) t = ap suc (fits-length opens p (both-right (has w s) (fits opens p) t))
+pub cells-open-length : (opens p : List ℕ) → T (cellsOpen opens p) → length p ≡ length opens
+unfolding cellsOpen
+cells-open-length [] [] t = refl
+cells-open-length [] (s ∷ p) t = absurd t
+cells-open-length (w ∷ opens) [] t = absurd t
+cells-open-length (w ∷ opens) (s ∷ p) t = ap suc (cells-open-length opens p (both-right (has w s) (cellsOpen opens p) t))
 
-fits-at : (opens p : List ℕ) → T (fits opens p) → (i : ℕ) → i < length opens → bit (getD opens i 0) (getD p i 0) ≡ 1
-unfolding fits
-fits-at [] p t i h = absurd (omega arith)
-fits-at (w ∷ opens) [] t i h = absurd t
-fits-at (w ∷ opens) (s ∷ p) t zero h = has-bit w s (both-left (has w s) (fits opens p) t)
-fits-at (w ∷ opens) (s ∷ p) t (suc i) h = fits-at opens p (both-right (has w s) (fits opens p) t) i (omega arith)
+cells-open-at : (opens p : List ℕ) → T (cellsOpen opens p) → (i : ℕ) → i < length opens → bit (getD opens i 0) (getD p i 0) ≡ 1
+unfolding cellsOpen
+cells-open-at [] p t i h = absurd (omega arith)
+cells-open-at (w ∷ opens) [] t i h = absurd t
+cells-open-at (w ∷ opens) (s ∷ p) t zero h = has-bit w s (both-left (has w s) (cellsOpen opens p) t)
+cells-open-at (w ∷ opens) (s ∷ p) t (suc i) h = cells-open-at opens p (both-right (has w s) (cellsOpen opens p) t) i (omega arith)
 
-fits-by : (opens p : List ℕ) → length p ≡ length opens → ((i : ℕ) → i < length opens → bit (getD opens i 0) (getD p i 0) ≡ 1) → T (fits opens p)
-unfolding fits
-fits-by [] [] e f = tt
-fits-by [] (s ∷ p) e f = absurd (omega arith)
-fits-by (w ∷ opens) [] e f = absurd (omega arith)
-fits-by (w ∷ opens) (s ∷ p) e f =
-    both (has w s) (fits opens p) (has-in w s (f 0 (omega arith))) (fits-by opens p (suc-inj e) (λ i h. f (suc i) (omega arith)))
+cells-open-by : (opens p : List ℕ) → length p ≡ length opens → ((i : ℕ) → i < length opens → bit (getD opens i 0) (getD p i 0) ≡ 1) → T (cellsOpen opens p)
+unfolding cellsOpen
+cells-open-by [] [] e f = tt
+cells-open-by [] (s ∷ p) e f = absurd (omega arith)
+cells-open-by (w ∷ opens) [] e f = absurd (omega arith)
+cells-open-by (w ∷ opens) (s ∷ p) e f =
+    both (has w s) (cellsOpen opens p) (has-in w s (f 0 (omega arith))) (cells-open-by opens p (suc-inj e) (λ i h. f (suc i) (omega arith)))
 
 -- ---- a plan and its record
 
@@ -116,14 +116,14 @@ padded-before p q e h = subst (λ k. Before (padded p) (q ++ replicate (64 - k) 
 module _ (m : ℕ) (opens : List ℕ) where
   matching-length : (p : List ℕ) → List·Memᴰ p (matchings opens (length opens) (below m)) → length p ≡ length opens
   unfolding matchings
-  matching-length p h = fits-length opens p (keep-from (fits opens) (arrangements (length opens) (below m)) h .1)
+  matching-length p h = cells-open-length opens p (keep-from (cellsOpen opens) (arrangements (length opens) (below m)) h .1)
 
   pub plans-rise : Rising (plans m opens)
   unfolding plans matchings
   plans-rise =
       rising-map padded (matchings opens (length opens) (below m))
       (λ p q a b h. padded-before p q (matching-length p a ∙ sym (matching-length q b)) h)
-      (chain-keep Before (fits opens) (arrangements (length opens) (below m)) (arrangements-rise (length opens) (below m) (chain-below m)))
+      (chain-keep Before (cellsOpen opens) (arrangements (length opens) (below m)) (arrangements-rise (length opens) (below m) (chain-below m)))
 
   -- the plans after number k are those from number k + 1 on
   pub plans-after : (k : ℕ) → k < length (plans m opens) → plansAfter m opens (getD (plans m opens) k []) ≡ drop (suc k) (plans m opens)
@@ -136,14 +136,14 @@ module _ (m : ℕ) (opens : List ℕ) where
     plan-from p h =
         let r = Memᴰ·of-map padded (matchings opens (length opens) (below m)) h in
         let q = r .0 in
-        let k = keep-from (fits opens) (arrangements (length opens) (below m)) (r .1) in
+        let k = keep-from (cellsOpen opens) (arrangements (length opens) (below m)) (r .1) in
         let a = arrangements-from (length opens) (below m) (k .0) in
         let e = a .sized in
         let at : (i : ℕ) → i < length opens → getD (padded q) i 0 ≡ getD q i 0 = λ i l. padded-at q i (omega arith) in
         subst (IsPlan opens) (r .2)
         (record {
           sized = padded-length q (omega arith);
-          open-cell = λ i l. ap (bit (getD opens i 0)) (at i l) ∙ fits-at opens q (k .1) i l;
+          open-cell = λ i l. ap (bit (getD opens i 0)) (at i l) ∙ cells-open-at opens q (k .1) i l;
           once = λ i j l g s. a .once i j l g (sym (at i l) ∙ s ∙ at j g);
           zeros = λ i l g. padded-zero q i (omega arith) g;
         })
@@ -158,17 +158,18 @@ module _ (m : ℕ) (opens : List ℕ) where
         let cell : (i : ℕ) → i < n → bit (getD opens i 0) (getD q i 0) ≡ 1 = λ i l. ap (bit (getD opens i 0)) (at i l) ∙ h .open-cell i l in
         subst (λ x. List·Memᴰ x (plans m opens)) (back q size at)
         (Memᴰ·map padded
-        (keep-into (fits opens) (arrangements n (below m))
+        (keep-into (cellsOpen opens) (arrangements n (below m))
         (arrangements-into n (below m) q
         (record {
           sized = size;
           inside = λ i l. below-into m (bit-one-lt m (getD opens i 0) (getD q i 0) (range i l) (cell i l));
           once = λ i j l g e. h .once i j l g (sym (at i l) ∙ e ∙ at j g);
         }))
-        (fits-by opens q size cell)))
+        (cells-open-by opens q size cell)))
       where
         back : (q : List ℕ) → length q ≡ length opens → ((i : ℕ) → i < length opens → getD q i 0 ≡ getD p i 0) → padded q ≡ p
-        back q e at = ext-getD 0 (padded q) p (padded-length q (omega arith) ∙ sym (h .sized)) (λ i l. go i (omega (arith, padded-length q (omega arith))) (decLt i (length opens)))
+        back q e at = ext-getD 0 (padded q) p (padded-length q (omega arith)
+            ∙ sym (h .sized)) (λ i l. go i (omega (arith, padded-length q (omega arith))) (decLt i (length opens)))
           where
             go : (i : ℕ) → i < 64 → Dec (i < length opens) → getD (padded q) i 0 ≡ getD p i 0
             go i l (yes g) = padded-at q i (omega arith) ∙ at i g

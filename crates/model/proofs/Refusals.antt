@@ -1,13 +1,17 @@
--- Refused and accepted: what the first of several tests, an answer's numbers and a lent buffer are. Assumes nothing.
-use mathlib.Core.Path.{_≡_, refl, sym, ap}
+-- Refused and accepted: what the first of several tests, an answer and a lent buffer are. Assumes nothing.
+use mathlib.Core.Path.{_≡_, refl, sym, ap, _∙_}
 use mathlib.Core.Logic.{_≢_}
 use mathlib.Core.List.{List, _++_}
-use Prim.Native.Nat.{ℕ, zero, suc, _≤_, _<_}
+use Prim.Native.Nat.{ℕ, zero, suc, _^_, _≤_, _<_}
 use native.Mathlib.Omega.{arith}
-use borrow.Author.Tests.{lt-ltb, le-ltb}
+use borrow.Author.Tests.{lt-ltb, le-ltb, ltb-false, eqb-false}
+use lib.Dec.{eqb, ltb}
 use lib.ListN.{length, drop}
-use Rattle.model.specs.declared.PlanAnswer.{PlanAnswer}
-use Rattle.model.specs.Answers.{orElse, unlessRefused, written, roomCode, refused, unless}
+use Rattle.model.specs.Refusal.{orElse, unless, written, sizeCode, tallyCode, fleetCode, roomCode}
+use Rattle.model.proofs.Members.{neither}
+use Rattle.model.proofs.Accepted.{passed}
+
+-- ---- tests, one after the other
 
 pub or-first : (c later : ℕ) → c ≢ 0 → orElse c later ≡ c
 unfolding orElse
@@ -18,6 +22,24 @@ pub or-later : (c later : ℕ) → c ≡ 0 → orElse c later ≡ later
 unfolding orElse
 or-later c later e = ap (λ x. orElse x later) e
 
+pub or-none : (c : ℕ) → orElse c 0 ≡ c
+unfolding orElse
+or-none zero = refl
+or-none (suc c) = refl
+
+pub or-assoc : (a b c : ℕ) → orElse (orElse a b) c ≡ orElse a (orElse b c)
+unfolding orElse
+or-assoc zero b c = refl
+or-assoc (suc a) b c = refl
+
+-- the same of tests that were made: c is what the first one found, y what the later one did
+module _ (c x later : ℕ) (e : c ≡ x) where
+  pub stops : c ≢ 0 → c ≡ orElse x later
+  stops d = e ∙ sym (or-first x later (λ z. d (e ∙ z)))
+
+  pub goes-on : (y : ℕ) → c ≡ 0 → y ≡ later → y ≡ orElse x later
+  goes-on y z q = q ∙ sym (or-later x later (sym e ∙ z))
+
 -- no refusal of two
 pub neither-refuses : (c later : ℕ) → orElse c later ≡ 0 → (c ≡ 0) × (later ≡ 0)
 unfolding orElse
@@ -25,20 +47,31 @@ neither-refuses zero later e = (refl, e)
 neither-refuses (suc c) later e = absurd (omega arith)
 
 pub room-enough : (places wanted : ℕ) → wanted ≤ places → roomCode places wanted ≡ 0
-unfolding roomCode
 room-enough places wanted h = simp (le-ltb places wanted h)
 
 pub room-short : (places wanted : ℕ) → places < wanted → roomCode places wanted ≡ 15
-unfolding roomCode
 room-short places wanted h = simp (lt-ltb places wanted h)
 
-pub unless-refused : (c : ℕ) → c ≢ 0 → (a : PlanAnswer) → refused c ≡ unless c a
-unfolding unless
-unless-refused zero h a = absurd (h refl)
-unless-refused (suc c) h a = refl
+pub size-passed : (m : ℕ) → sizeCode m ≡ 0 → m ≤ 20
+size-passed m e = ltb-false 20 m (passed _ 4 0 e .0)
 
--- a refused call, by its number
+pub tally-passed : (m words : ℕ) → tallyCode m words ≡ 0 → 2 ^ m ≤ words
+tally-passed m words e = ltb-false words (2 ^ m) (passed _ 5 0 e .0)
+
+pub fleet-passed : (vehicles : ℕ) → fleetCode vehicles ≡ 0 → (vehicles ≢ 0) × (vehicles ≤ 10000)
+fleet-passed vehicles e = let b = neither (eqb vehicles 0) (ltb 10000 vehicles) (passed _ 6 0 e .0) in (eqb-false vehicles 0 (b .0), ltb-false 10000 vehicles (b .1))
+
+-- ---- a refused call, by its number
+
 module _ (c code : ℕ) (d : c ≢ 0) (e : code ≡ c) where
+  pub refused-answer : {A : Type 0} (refusal : ℕ → A) (answer : A) → refusal c ≡ unless refusal code answer
+  unfolding unless
+  refused-answer {A} refusal answer = go c d e
+    where
+      go : (c : ℕ) → c ≢ 0 → code ≡ c → refusal c ≡ unless refusal code answer
+      go zero d e = absurd (d refl)
+      go (suc c) d e = ap (λ x. unless refusal x answer) (sym e)
+
   pub nothing-written : (values old : List ℕ) → old ≡ written code values old
   unfolding written
   nothing-written values old = go c d e
@@ -47,20 +80,22 @@ module _ (c code : ℕ) (d : c ≢ 0) (e : code ≡ c) where
       go zero d e = absurd (d refl)
       go (suc c) d e = ap (λ x. written x values old) (sym e)
 
-  pub zero-number : (x : ℕ) → 0 ≡ unlessRefused code x
-  unfolding unlessRefused
-  zero-number x = go c d e
-    where
-      go : (c : ℕ) → c ≢ 0 → code ≡ c → 0 ≡ unlessRefused code x
-      go zero d e = absurd (d refl)
-      go (suc c) d e = ap (λ y. unlessRefused y x) (sym e)
+-- ---- an accepted one
 
--- an accepted one
 module _ (code : ℕ) (e : code ≡ 0) where
+  pub accepted-answer : {A : Type 0} (refusal : ℕ → A) (answer : A) → answer ≡ unless refusal code answer
+  unfolding unless
+  accepted-answer refusal answer = ap (λ x. unless refusal x answer) (sym e)
+
   pub all-written : (values old : List ℕ) → values ++ drop (length values) old ≡ written code values old
   unfolding written
   all-written values old = ap (λ x. written x values old) (sym e)
 
-  pub the-number : (x : ℕ) → x ≡ unlessRefused code x
-  unfolding unlessRefused
-  the-number x = ap (λ y. unlessRefused y x) (sym e)
+-- ---- the number of an answer
+
+-- refusals have their numbers: the answer has the code, or its own number where nothing was refused
+pub unless-code : {A : Type 0} (number : A → ℕ) (refusal : ℕ → A) → ((c : ℕ) → number (refusal c) ≡ c) → (code : ℕ) (answer : A)
+    → number (unless refusal code answer) ≡ orElse code (number answer)
+unfolding unless orElse
+unless-code number refusal f zero answer = refl
+unless-code number refusal f (suc c) answer = f (suc c)

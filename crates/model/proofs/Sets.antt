@@ -13,11 +13,12 @@ use lib.ListN.{length}
 use lib.Pow.{pow-pos, pow-lt}
 use Rattle.words.specs.Word.{bit, has, without}
 use Rattle.words.specs.Sum.{below, total, sum}
-use Rattle.words.proofs.Bits.{bit-lt, bit-cases, bit-one, bit-none, has-in, has-bit, bit-empty, bit-or, bit-single, bit-single-other, bit-without-other, at-slot}
+use Rattle.words.proofs.Bits.{bit-lt, bit-cases, bit-one, bit-none, has-in, has-bit, bit-empty, bit-or, bit-single, bit-single-other, bit-without-other}
+use Rattle.words.proofs.Bits.{at-slot}
 use Rattle.words.proofs.Sums.{below-from, below-into, sum-injection}
 use Rattle.words.proofs.SetLaws.{ones-sum, bit-without-le}
 use Rattle.model.specs.Lists.{keep}
-use Rattle.model.specs.Sets.{members, union}
+use Rattle.model.specs.Sets.{members, union, image}
 use Rattle.model.proofs.Members.{keep-from, keep-into}
 
 -- ---- tests as numbers
@@ -106,11 +107,7 @@ module _ {A : Type 0} (f : A → ℕ) where
       let q = Memᴰ·of-map (λ y. 2 ^ f y) l m in
       subst (λ v. v < 2 ^ k) (q .2) (pow-lt (h (q .0) (q .1))))
 
--- ---- the image of a set: f x, for the numbers x below n in it
-
-unfoldable pub image : (ℕ → ℕ) → ℕ → ℕ → ℕ
-unfolding union members
-image f n set = union (map (λ x. 2 ^ f x) (members n set))
+-- ---- the image of a set
 
 module _ (f : ℕ → ℕ) (n set : ℕ) where
   pub image-into : (x : ℕ) → x < n → bit set x ≡ 1 → bit (image f n set) (f x) ≡ 1

@@ -11,7 +11,7 @@ use Rattle.words.specs.Word.{bit, has}
 use Rattle.words.specs.Sum.{total}
 use Rattle.words.proofs.Sums.{total-scale, total-swap}
 use Rattle.model.specs.Lists.{keep, remove}
-use Rattle.model.specs.Plans.{arrangements, fits, matchings}
+use Rattle.model.specs.Plans.{arrangements, cellsOpen, matchings}
 use Rattle.model.proofs.Sets.{one, bit-is}
 
 -- ---- what passes a test, of lists put together
@@ -59,18 +59,19 @@ total-same f g l h = ap (λ k. total k l) (fun-ext h)
 
 -- ---- by the first item
 
-cons-keep : (w s : ℕ) (opens : List ℕ) (l : List (List ℕ)) → keep (fits (w ∷ opens)) (map (s ∷_) l) ≡ cond (has w s) (map (s ∷_) (keep (fits opens) l)) []
-unfolding keep fits
+cons-keep : (w s : ℕ) (opens : List ℕ) (l : List (List ℕ))
+    → keep (cellsOpen (w ∷ opens)) (map (s ∷_) l) ≡ cond (has w s) (map (s ∷_) (keep (cellsOpen opens) l)) []
+unfolding keep cellsOpen
 cons-keep w s opens [] = go (has w s)
   where
     go : (b : Bool) → _≡_ {A = List (List ℕ)} [] (cond b [] [])
     go true = refl
     go false = refl
-cons-keep w s opens (q ∷ l) = go (has w s) (fits opens q) (cons-keep w s opens l)
+cons-keep w s opens (q ∷ l) = go (has w s) (cellsOpen opens q) (cons-keep w s opens l)
   where
-    go : (b c : Bool) → keep (fits (w ∷ opens)) (map (s ∷_) l) ≡ cond b (map (s ∷_) (keep (fits opens) l)) []
-        → cond (b && c) ((s ∷ q) ∷ keep (fits (w ∷ opens)) (map (s ∷_) l)) (keep (fits (w ∷ opens)) (map (s ∷_) l))
-        ≡ cond b (map (s ∷_) (cond c (q ∷ keep (fits opens) l) (keep (fits opens) l))) []
+    go : (b c : Bool) → keep (cellsOpen (w ∷ opens)) (map (s ∷_) l) ≡ cond b (map (s ∷_) (keep (cellsOpen opens) l)) []
+        → cond (b && c) ((s ∷ q) ∷ keep (cellsOpen (w ∷ opens)) (map (s ∷_) l)) (keep (cellsOpen (w ∷ opens)) (map (s ∷_) l))
+        ≡ cond b (map (s ∷_) (cond c (q ∷ keep (cellsOpen opens) l) (keep (cellsOpen opens) l))) []
     go true true e = ap ((s ∷ q) ∷_) e
     go true false e = e
     go false c e = e
@@ -79,7 +80,7 @@ pub matchings-cons : (w : ℕ) (opens : List ℕ) (k : ℕ) (slots : List ℕ)
     → matchings (w ∷ opens) (suc k) slots ≡ flatMap (λ s. cond (has w s) (map (s ∷_) (matchings opens k (remove s slots))) []) slots
 unfolding matchings arrangements
 matchings-cons w opens k slots =
-    keep-flatMap (fits (w ∷ opens)) (λ s. map (s ∷_) (arrangements k (remove s slots))) slots
+    keep-flatMap (cellsOpen (w ∷ opens)) (λ s. map (s ∷_) (arrangements k (remove s slots))) slots
     ∙ ap (λ f. flatMap f slots) (fun-ext (λ s. cons-keep w s opens (arrangements k (remove s slots))))
 
 -- how many ways there are to give the items of `opens`, all of them, different slots of the list

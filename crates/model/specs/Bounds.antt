@@ -7,7 +7,8 @@ use lib.ListN.{replicate}
 use Rattle.model.specs.Rota.{tableCode}
 use Rattle.model.specs.Grade.{gradeOf, rate}
 use Rattle.model.specs.File.{blocksFor, fileCode}
-use Rattle.model.specs.Answers.{countCode, fleetCode, roomCode}
+use Rattle.model.specs.Refusal.{fleetCode, roomCode}
+use Rattle.model.specs.CountAnswers.{countCode}
 
 -- acceptance, and what count, grade and price add
 pub record Codes : Type 0 where
@@ -36,33 +37,8 @@ pub record Codes : Type 0 where
   pub wrong-check : fileCode (1 ∷ replicate 511 0) ≡ 13
 
 pub codes : Codes
-unfolding tableCode countCode fleetCode roomCode fileCode
-codes =
-    record {
-      no-item = refl;
-      most-items = refl;
-      too-many = refl;
-      short-opens = refl;
-      long-callouts = refl;
-      last-slot = refl;
-      slot-above = refl;
-      three-first = refl;
-      stray = refl;
-      twenty = refl;
-      twenty-one = refl;
-      small-tally = refl;
-      no-vehicle = refl;
-      one-vehicle = refl;
-      most-vehicles = refl;
-      too-many-vehicles = refl;
-      room = refl;
-      no-room = refl;
-      no-file = refl;
-      short-file = refl;
-      long-file = refl;
-      zero-file = refl;
-      wrong-check = refl;
-    }
+unfolding tableCode countCode fileCode
+codes = search refl
 
 -- the rules of the grade, the second argument saying whether some item has just one open slot; the rates' columns; the blocks
 pub record Figures : Type 0 where
@@ -88,25 +64,4 @@ pub record Figures : Type 0 where
 
 pub figures : Figures
 unfolding gradeOf rate blocksFor
-figures =
-    record {
-      rule-1 = refl;
-      rule-2 = refl;
-      rule-3 = refl;
-      rule-3-least = refl;
-      rule-4 = refl;
-      rule-4-most = refl;
-      rule-5 = refl;
-      rule-5-most = refl;
-      fleet-1 = refl;
-      fleet-49 = refl;
-      fleet-50 = refl;
-      fleet-499 = refl;
-      fleet-500 = refl;
-      fleet-10000 = refl;
-      one-block = refl;
-      two-blocks = refl;
-      two-blocks-most = refl;
-      three-blocks = refl;
-      three-blocks-most = refl;
-    }
+figures = search refl

@@ -8,8 +8,13 @@ pub mod Deficiency
 pub mod Count
 pub mod Grade
 pub mod File
-pub mod Answers
-pub mod Enumerator
-pub mod Demand3
+pub mod Refusal
+pub mod PlanAnswers
+pub mod UsableAnswers
+pub mod CountAnswers
+pub mod PriceAnswers
+pub mod FileAnswers
+pub mod Lister
+pub mod Listing
 pub mod Rows
 pub mod Bounds

@@ -1,8 +1,8 @@
--- Lists: what passes a test, the least and the greatest of a list, equality and dictionary order. Assumes nothing.
+-- Lists: what passes a test, the least and the greatest of a list, equality, dictionary order, rising lists. Assumes nothing.
 use mathlib.Core.Bool.{Bool, true, false, not, cond, _&&_, _||_}
-use mathlib.Core.List.{List, [], _∷_}
+use mathlib.Core.List.{List, [], _∷_, List·Memᴰ}
 use Prim.Native.Nat.{ℕ, min, max}
-use lib.Dec.{eqb, ltb}
+use lib.Dec.{T, eqb, ltb}
 
 -- the members that pass the test, in their order
 unfoldable pub keep : {A : Type 0} → (A → Bool) → List A → List A
@@ -48,3 +48,15 @@ before [] [] = false
 before [] (y ∷ m) = true
 before (x ∷ l) [] = false
 before (x ∷ l) (y ∷ m) = ltb x y || (eqb x y && before l m)
+
+abbrev pub Before : List ℕ → List ℕ → Type 0
+Before p q = T (before p q)
+
+-- each member stands in the relation to all later ones
+abbrev pub Chain : {A : Type 0} → (A → A → Type 0) → List A → Type 0
+Chain R [] = Unit {0}
+Chain {A} R (x ∷ l) = ((y : A) → List·Memᴰ y l → R x y) × Chain R l
+
+-- in dictionary order, none twice
+abbrev pub Rising : List (List ℕ) → Type 0
+Rising = Chain Before

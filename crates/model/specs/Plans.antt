@@ -15,18 +15,18 @@ unfolding remove flatMap
 arrangements zero slots = [] ∷ []
 arrangements (suc k) slots = flatMap (λ s. map (s ∷_) (arrangements k (remove s slots))) slots
 
--- there is a slot for each item, and its cell is open
-unfoldable pub fits : List ℕ → List ℕ → Bool
+-- there is a slot for each item, and each of the cells is open
+unfoldable pub cellsOpen : List ℕ → List ℕ → Bool
 unfolding has
-fits [] [] = true
-fits [] (s ∷ p) = false
-fits (w ∷ opens) [] = false
-fits (w ∷ opens) (s ∷ p) = has w s && fits opens p
+cellsOpen [] [] = true
+cellsOpen [] (s ∷ p) = false
+cellsOpen (w ∷ opens) [] = false
+cellsOpen (w ∷ opens) (s ∷ p) = has w s && cellsOpen opens p
 
 -- the ways to give the items k of the slots, each item an open one, no slot twice; none unless there are k items
 unfoldable pub matchings : List ℕ → ℕ → List ℕ → List (List ℕ)
-unfolding keep fits arrangements
-matchings opens k slots = keep (fits opens) (arrangements k slots)
+unfolding keep cellsOpen arrangements
+matchings opens k slots = keep (cellsOpen opens) (arrangements k slots)
 
 -- a plan's record of 64 bytes: byte i is item i's slot, bytes from n on are 0
 unfoldable pub padded : List ℕ → List ℕ

@@ -3,11 +3,13 @@ use mathlib.Core.Path.{_≡_, refl}
 use mathlib.Core.List.{List, [], _∷_, _++_}
 use Prim.Native.Nat.{ℕ, _+_, _*_}
 use lib.ListN.{length, getD, take, drop, replicate}
-use Rattle.model.specs.Plans.{plans, blank}
+use Rattle.model.specs.Plans.{plans}
 use Rattle.model.specs.Allowed.{allowedWords}
 use Rattle.model.specs.Count.{permanent, subsetCounts}
 use Rattle.model.specs.File.{fileBytes, fileCode, itemsIn, opensIn, calloutsIn}
-use Rattle.model.specs.Answers.{firstAnswer, nextAnswer, fewestAnswer, countAnswer, gradeAnswer, priceAnswer, given, refused, overCap}
+use Rattle.model.specs.PlanAnswers.{firstAnswer, nextAnswer, fewestAnswer, given, refused, short, overCap}
+use Rattle.model.specs.CountAnswers.{countAnswer}
+use Rattle.model.specs.PriceAnswers.{gradeAnswer, priceAnswer}
 
 abbrev T-opens : List ℕ
 T-opens = 3 ∷ 7 ∷ 6 ∷ []
@@ -37,40 +39,19 @@ pub record Rows : Type 0 where
   pub two-plans : plans 3 two-opens ≡ slots 0 1 2 ∷ slots 0 2 1 ∷ []
   pub two-usable : allowedWords 3 two-opens ≡ 1 ∷ 6 ∷ 6 ∷ []
   pub two-grade : gradeAnswer 3 3 two-opens (none 3) 8 ≡ record { code = 0; grade = 3; shortage = 0; items = 0 }
-  pub short-four : firstAnswer 4 4 (1 ∷ 1 ∷ 2 ∷ 14 ∷ []) (none 4) ≡ record { code = 9; shortage = 1; items = 3; callouts = 0; plan = record { slots = blank } }
-  pub short-two : firstAnswer 2 2 (0 ∷ 3 ∷ []) (none 2) ≡ record { code = 9; shortage = 1; items = 1; callouts = 0; plan = record { slots = blank } }
+  pub short-four : firstAnswer 4 4 (1 ∷ 1 ∷ 2 ∷ 14 ∷ []) (none 4) ≡ short 1 3
+  pub short-two : firstAnswer 2 2 (0 ∷ 3 ∷ []) (none 2) ≡ short 1 1
   pub one-plan : plans 1 (1 ∷ []) ≡ (0 ∷ replicate 63 0) ∷ []
   pub one-count : countAnswer 1 1 (1 ∷ []) (none 1) 2 ≡ record { code = 0; count = 1 }
   pub one-grade : gradeAnswer 1 1 (1 ∷ []) (none 1) 2 ≡ record { code = 0; grade = 1; shortage = 0; items = 0 }
   pub none-usable : allowedWords 1 (0 ∷ []) ≡ 0 ∷ []
   pub none-count : countAnswer 1 1 (0 ∷ []) (none 1) 2 ≡ record { code = 0; count = 0 }
-  pub none-first : firstAnswer 1 1 (0 ∷ []) (none 1) ≡ record { code = 9; shortage = 1; items = 1; callouts = 0; plan = record { slots = blank } }
+  pub none-first : firstAnswer 1 1 (0 ∷ []) (none 1) ≡ short 1 1
   pub T-last : nextAnswer 3 3 T-opens T-callouts (record { slots = slots 1 0 2 }) ≡ refused 10
 
 pub rows : Rows
 unfolding plans countAnswer fewestAnswer gradeAnswer priceAnswer allowedWords firstAnswer nextAnswer
-rows =
-    record {
-      T-plans = refl;
-      T-count = refl;
-      T-cap-1 = refl;
-      T-cap-0 = refl;
-      T-grade = refl;
-      T-price = refl;
-      T-cents = refl;
-      two-plans = refl;
-      two-usable = refl;
-      two-grade = refl;
-      short-four = refl;
-      short-two = refl;
-      one-plan = refl;
-      one-count = refl;
-      one-grade = refl;
-      none-usable = refl;
-      none-count = refl;
-      none-first = refl;
-      T-last = refl;
-    }
+rows = search refl
 
 -- T's file is one block, its check 338: byte 510 is 82 and byte 511 is 1; and back
 pub record File : Type 0 where
@@ -86,7 +67,7 @@ pub record File : Type 0 where
 
 pub file : File
 unfolding fileBytes fileCode itemsIn opensIn calloutsIn
-file = record { size = refl; check-low = refl; check-high = refl; header = refl; item-0 = refl; accepted = refl; items = refl; opens = refl; callouts = refl }
+file = search refl
 
 -- T's tally and its permanent
 pub T-tally : subsetCounts 3 T-opens ≡ 1 ∷ 1 ∷ 1 ∷ 2 ∷ 0 ∷ 1 ∷ 1 ∷ 3 ∷ []

@@ -19,7 +19,7 @@ pub struct PlanAnswer {
 
 // Document 01's lister.
 #[repr(C)]
-pub struct Enumerator {
+pub struct Lister {
     pub started: bool,
     pub plan: Plan,
 }

@@ -11,10 +11,10 @@ use lib.ListN.{length, getD}
 use Rattle.words.specs.Word.{bit, with, without, minus, low}
 use Rattle.words.proofs.Bits.{bit-lt, bit-or, bit-low, bit-minus, bit-without, bit-without-other}
 use Rattle.words.proofs.SetLaws.{bit-without-le}
-use Rattle.model.specs.declared.PlanAnswer.{PlanAnswer}
 use Rattle.model.specs.Plans.{plansAfter, IsPlan}
-use Rattle.model.specs.Answers.{nextOf, given, refused}
-use Rattle.model.proofs.Order.{Before, before-by, before-place}
+use Rattle.model.specs.PlanAnswers.{nextOf, given, refused}
+use Rattle.model.specs.Lists.{Before}
+use Rattle.model.proofs.Order.{before-by, before-place}
 use Rattle.model.proofs.Laws.{next-of, next-of-none}
 use Rattle.augment.specs.Table.{own, at, Complete}
 use Rattle.augment.specs.Search.{Within, Same}
@@ -174,8 +174,7 @@ module _ (w g o p : List ℕ) (f fixed after i x s fixed′ : ℕ) (A : Advancin
                   late (yes u) = omega (arith, A .stuck j (omega arith) u q Q s)
                   late (no u) = omega (arith, Q .zeros j (omega arith) h)
 
-      pub advancing-found : _≡_ {A = PlanAnswer} (record { code = 0; shortage = 0; items = 0; callouts = 0; plan = record { slots = r } }) (nextOf (plansAfter 64 w g))
-      unfolding given
+      pub advancing-found : given r 0 ≡ nextOf (plansAfter 64 w g)
       advancing-found = sym (next-of 64 w (C .table .few) (C .table .range) g r (S .plan) after-g least)
 
 -- ---- no item can

@@ -1,3 +1,2 @@
-pub mod Adopts
-pub mod ItemAdvances
-pub mod Advances
+mod ItemAdvances
+mod Advances

@@ -1,76 +1,17 @@
 // The next perfect matching after a given one (document 01's next plan). The tables are those of `augment`.
 ghost use mathlib.Core.Path.{_≡_};
 ghost use mathlib.Core.Logic.{_≢_};
-ghost use mathlib.Core.Bool.{true, false, cond};
 ghost use Prim.Native.Nat.{_≤_, _<_};
 ghost use lib.ListN.{length};
-ghost use Rattle.model.specs.Plans.{isPlan, plansAfter, IsPlan};
-ghost use Rattle.model.specs.Answers.{nextOf, refused};
+ghost use Rattle.model.specs.Plans.{plansAfter};
+ghost use Rattle.model.specs.PlanAnswers.{nextOf, nextFrom};
 ghost use Rattle.augment.specs.Table.{Complete};
 ghost use Rattle.augment.specs.Search.{Same};
 ghost use Rattle.least.specs.Least.{Minimizable, Lowered, Stuck};
-ghost use Rattle.next.specs.Next.{Zeros, Adopted, above};
+ghost use Rattle.next.specs.Next.{above};
 use augment::Found;
 use model::Plan;
 use model::PlanAnswer;
-
-// Whether the bytes from n on are 0.
-pub fn zeros_from(plan: [u8; 64], n: usize) -> bool
-    ensures { λ r. ⌜ (r ≡ true → Zeros plan n) × (r ≡ false → Zeros plan n → ⊥) ⌝ }
-{
-    let mut i = n;
-    while i < 64 {
-        if plan[i] != 0 {
-            return false;
-        }
-        i += 1;
-    }
-    true
-}
-
-// What became of a record that is to be a plan.
-pub struct Adoption {
-    pub ok: bool,
-    pub free: u64,
-}
-
-// Each item's byte is an open slot that no item before it has; `owner` gets the holders.
-pub fn adopt_items(opens: &[u64], plan: [u8; 64], owner: &mut [u8; 64]) -> Adoption
-    requires { ⌜ (length (now opens) ≤ 64) × (length (now owner) ≡ 64) ⌝ }
-    ensures yes { λ r. ⌜ (r .ok ≡ true → Adopted (now (opens .entry)) plan (now (owner .exit)) (r .free) (length (now (opens .entry)))) ⌝ }
-    ensures no { λ r. ⌜ (r .ok ≡ false → IsPlan (now (opens .entry)) plan → ⊥) ⌝ }
-{
-    let mut free = words::low(64);
-    let mut i = 0;
-    while i < opens.len() {
-        let s = words::wide(plan[i]);
-        if s >= 64 {
-            return Adoption { ok: false, free };
-        }
-        if !words::has(opens[i], s) {
-            return Adoption { ok: false, free };
-        }
-        if !words::has(free, s) {
-            return Adoption { ok: false, free };
-        }
-        owner[s] = i as u8;
-        free = words::without(free, s);
-        i += 1;
-    }
-    Adoption { ok: true, free }
-}
-
-// Whether a record is a plan: then `owner` gets the holders, and the answer has the free slots.
-pub fn adopt(opens: &[u64], plan: [u8; 64], owner: &mut [u8; 64]) -> Adoption
-    requires { ⌜ (length (now opens) ≤ 64) × (length (now owner) ≡ 64) ⌝ }
-    ensures yes { λ r. ⌜ (r .ok ≡ true → Complete (now (opens .entry)) (now (owner .exit)) plan (r .free)) ⌝ }
-    ensures no { λ r. ⌜ (r .ok ≡ false → IsPlan (now (opens .entry)) plan → ⊥) ⌝ }
-{
-    if !zeros_from(plan, opens.len()) {
-        return Adoption { ok: false, free: 0 };
-    }
-    adopt_items(opens, plan, owner)
-}
 
 // Item x moves to the least slot above its own that leaves those of the items before it to them, if there is one. `after` are the
 // slots open to the items after it.
@@ -127,29 +68,23 @@ pub fn advance(opens: &[u64], plan: [u8; 64], owner: &mut [u8; 64], free: u64) -
                 i + 1,
                 words::with(fixed, r.at),
             );
-            return PlanAnswer {
-                code: 0,
-                shortage: 0,
-                items: 0,
-                callouts: 0,
-                plan: Plan { slots: slot },
-            };
+            return answers::given(slot, 0);
         }
         after = after | opens[i];
     }
-    acceptance::refusal(10)
+    answers::refused(10)
 }
 
 // The plan after the given one; 8 where that is none of this rota, 10 where none follows.
 pub fn next_plan(opens: &[u64], given: Plan) -> PlanAnswer
     requires { ⌜ length (now opens) ≤ 64 ⌝ }
-    ensures { λ r. ⌜ r ≡ cond (isPlan 64 (now (opens .entry)) (given .slots)) (nextOf (plansAfter 64 (now (opens .entry)) (given .slots))) (refused 8) ⌝ }
+    ensures { λ r. ⌜ r ≡ nextFrom 64 (now (opens .entry)) (given .slots) ⌝ }
 {
     let plan = given.slots;
     let mut owner = [0u8; 64];
-    let a = adopt(opens, plan, &mut owner);
+    let a = plan::adopt(opens, plan, &mut owner);
     if !a.ok {
-        return acceptance::refusal(8);
+        return answers::refused(8);
     }
     advance(opens, plan, &mut owner, a.free)
 }

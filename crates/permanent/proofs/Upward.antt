@@ -11,7 +11,7 @@ use Rattle.words.specs.Word.{low}
 use Rattle.words.proofs.Bits.{low-suc}
 use Rattle.words.proofs.Sums.{map-below, length-map-below}
 use Rattle.model.specs.Count.{count, subsetCounts}
-use Rattle.model.specs.Answers.{written}
+use Rattle.model.specs.Refusal.{written}
 use Rattle.model.proofs.Subsets.{subset-empty, subset-last}
 use Rattle.permanent.specs.SubsetWord.{word, Known}
 

@@ -3,7 +3,7 @@ ghost use mathlib.Core.Path.{_≡_};
 ghost use Prim.Native.Nat.{_^_, _≤_};
 ghost use lib.ListN.{length};
 ghost use Rattle.model.specs.Count.{count, subsetCounts};
-ghost use Rattle.model.specs.Answers.{written};
+ghost use Rattle.model.specs.Refusal.{written};
 ghost use Rattle.permanent.specs.SubsetWord.{word, Known};
 
 // The word of a set, from the words below it: the last of the first items takes an open slot of the set, the others the rest.

@@ -1,5 +1,6 @@
-pub mod Calls
-pub mod Counting
-pub mod Enumerating
-pub mod Demand3OfCalls
-pub mod Pricing
+mod TableCalls
+mod Countable
+mod Priced
+mod Stepping
+mod FileTables
+mod OnFiles

@@ -11,7 +11,7 @@ use lib.ListN.{length}
 use Rattle.model.specs.Lists.{any}
 use Rattle.model.specs.Rota.{cellCode}
 use Rattle.model.specs.File.{blocksFor, blocksIn, itemsIn, opensIn, calloutsIn, checkWrong, laidOut, fileCode}
-use Rattle.model.specs.Answers.{orElse}
+use Rattle.model.specs.Refusal.{orElse}
 use Rattle.model.proofs.Files.{fileCode-is, size-into}
 use Rattle.rota_file.specs.Blocks.{allChecked}
 use Rattle.rota_file.specs.declared.reader.Checked.{Checked}

@@ -3,6 +3,6 @@ mod Layouts
 mod Checks
 mod FileRefusals
 mod Values
-mod Written
-mod Answered
-pub mod RoundTrips
+mod WrittenBytes
+mod Inside
+pub mod Rotas

@@ -4,14 +4,14 @@ use mathlib.Core.Logic.{_≢_}
 use mathlib.Core.Bool.{true, false, _&&_}
 use mathlib.Core.List.{List, [], _∷_, _++_, append-nil, append-assoc}
 use Prim.Native.Nat.{ℕ, suc, _+_, _-_, _*_, _/_, _%_, _^_, _≤_, _<_}
-use native.Mathlib.Nat.{lt-of-lt-of-le, zero-add}
+use native.Mathlib.Nat.{lt-of-lt-of-le}
 use native.Mathlib.Numerals.{add-one}
 use native.Mathlib.Omega.{arith}
 use borrow.Author.Tests.{eq-eqb, ne-eqb}
 use lib.Dec.{eqb}
 use lib.Pow.{pow-mono}
 use lib.ListN.{length, getD, take, drop, set, drop-of-length-le}
-use lib.Seq.{drop-cons, take-all, take-suc-set, paste-suc}
+use lib.Seq.{drop-cons, take-all, take-suc-set}
 use Rattle.words.specs.Sum.{total}
 use Rattle.model.specs.Lists.{same}
 use Rattle.model.specs.File.{fromBytes, lowBytes, checkOf}
@@ -79,11 +79,3 @@ module _ (a b : List ℕ) (i : ℕ) (long : length b ≡ length a) (e : same a b
   pub same-done : length a ≤ i → true ≡ same a b
   unfolding same
   same-done h = sym (e ∙ ap₂ same (drop-of-length-le a {i = i} h) (drop-of-length-le b {i = i} (omega arith)))
-
--- ---- a copy over the front of a list
-
-abbrev pub front : List ℕ → List ℕ → ℕ → List ℕ
-front s d i = take i s ++ drop i d
-
-pub front-more : (s d : List ℕ) (i : ℕ) → i < length s → i < length d → set (front s d i) i (getD s i 0) ≡ front s d (i + 1)
-front-more s d i hs hd = simp add-one (simp zero-add at (paste-suc d 0 s i 0 (simp zero-add hd) hs))

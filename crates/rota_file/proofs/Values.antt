@@ -7,7 +7,7 @@ use lib.ListN.{length, getD, take, drop, set, replicate}
 use lib.Seq.{take-length}
 use Rattle.model.specs.File.{fromBytes, blocksIn, wordsIn}
 use Rattle.model.proofs.Files.{all-length, word-of}
-use Rattle.rota_file.proofs.Turns.{front, front-more}
+use Rattle.words.proofs.Front.{front, front-more}
 
 module _ (file : List ℕ) (p n : ℕ) (room : n ≤ 31 * (length file / 512)) where
   pub values-length : length (wordsIn p n (blocksIn file)) ≡ n

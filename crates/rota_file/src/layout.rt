@@ -17,7 +17,7 @@ pub(crate) fn fields(n: u8, b: u8, k: u8) -> [u8; 10]
 }
 
 // The blocks that n items need.
-pub(crate) fn blocks_for(n: usize) -> usize
+pub fn blocks_for(n: usize) -> usize
     requires { ⌜ n ≤ 64 ⌝ }
     ensures { λ r. ⌜ (r ≡ blocksFor n) × (r ≤ 3) ⌝ }
 {

@@ -1,70 +1,53 @@
-// The rota file: any bytes are read as a rota or refused, and a rota is written as its file.
-mod layout;
+// The rota file: any bytes as a rota or refused, and the bytes of a rota.
+pub mod layout;
 mod numbers;
 mod reader;
-pub mod reading;
-mod writing;
+mod reading;
+pub mod writing;
 
 ghost use mathlib.Core.Path.{_≡_};
-ghost use lib.ListN.{length};
-ghost use Rattle.model.specs.Answers.{readAnswer, readOpens, readCallouts, writeAnswer, writeFile};
-use model::ReadAnswer;
-use model::WriteAnswer;
+ghost use Rattle.model.specs.File.{fileCode};
+ghost use Rattle.rota_file.specs.FileRota.{rotaUnless, noRota};
 
-// The answer of a refused read.
-fn read_refused(code: u32) -> ReadAnswer
-    ensures { λ r. ⌜ (r .code ≡ code) × (r .n ≡ 0) ⌝ }
-{
-    ReadAnswer { code, n: 0 }
+// A refusal; or 0 and the rota in a file, n items whose words are followed by zeros.
+pub struct FileRota {
+    pub code: u32,
+    pub n: usize,
+    pub opens: [u64; 64],
+    pub callouts: [u64; 64],
 }
 
-// Reads a file into two lent tables. The words are tested before they are stored, so a refusal leaves both as they were.
-pub fn read_file(file: &[u8], opens: &mut [u64], callouts: &mut [u64]) -> ReadAnswer
-    ensures answer { λ r. ⌜ r ≡ readAnswer (now (file .entry)) (length (now (opens .entry))) (length (now (callouts .entry))) ⌝ }
-    ensures opens { λ _. ⌜ now (opens .exit) ≡ readOpens (now (file .entry)) (now (opens .entry)) (now (callouts .entry)) ⌝ }
-    ensures callouts { λ _. ⌜ now (callouts .exit) ≡ readCallouts (now (file .entry)) (now (opens .entry)) (now (callouts .entry)) ⌝ }
+// The answer where there is none.
+pub fn no_rota(code: u32) -> FileRota
+    ensures { λ r. ⌜ r ≡ noRota code ⌝ }
+{
+    FileRota {
+        code,
+        n: 0,
+        opens: [0u64; 64],
+        callouts: [0u64; 64],
+    }
+}
+
+// The rota in a file, or the file's refusal.
+pub fn rota_in(file: &[u8]) -> FileRota
+    ensures { λ r. ⌜ r ≡ rotaUnless (fileCode (now (file .entry))) (now (file .entry)) ⌝ }
 {
     let layout = reading::layout_code(file);
     if layout != 0 {
-        return read_refused(layout);
+        return no_rota(layout);
     }
     let n = words::wide(file[5]);
-    let open_words = reading::words_in(file, 14, n);
-    let callout_words = reading::words_in(file, 22, n);
-    let cells = acceptance::cell_code(n, &open_words[..n], &callout_words[..n]);
+    let opens = reading::words_in(file, 14, n);
+    let callouts = reading::words_in(file, 22, n);
+    let cells = acceptance::cell_code(n, &opens[..n], &callouts[..n]);
     if cells != 0 {
-        return read_refused(cells);
+        return no_rota(cells);
     }
-    if opens.len() < n {
-        return read_refused(15);
-    }
-    if callouts.len() < n {
-        return read_refused(15);
-    }
-    reading::store(&open_words[..n], opens);
-    reading::store(&callout_words[..n], callouts);
-    ReadAnswer {
+    FileRota {
         code: 0,
-        n: n as u64,
-    }
-}
-
-// Writes the file of a rota of n items into a lent buffer.
-pub fn write_file(n: usize, opens: &[u64], callouts: &[u64], file: &mut [u8]) -> WriteAnswer
-    ensures answer { λ r. ⌜ r ≡ writeAnswer n n (now (opens .entry)) (now (callouts .entry)) (length (now (file .entry))) ⌝ }
-    ensures file { λ _. ⌜ now (file .exit) ≡ writeFile n n (now (opens .entry)) (now (callouts .entry)) (now (file .entry)) ⌝ }
-{
-    let code = acceptance::table_code(n, opens, callouts);
-    if code != 0 {
-        return WriteAnswer { code, bytes: 0 };
-    }
-    let size = 512 * layout::blocks_for(n);
-    if file.len() < size {
-        return WriteAnswer { code: 15, bytes: 0 };
-    }
-    writing::write_blocks(n, opens, callouts, &mut file[0..size]);
-    WriteAnswer {
-        code: 0,
-        bytes: size as u64,
+        n,
+        opens,
+        callouts,
     }
 }

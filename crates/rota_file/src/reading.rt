@@ -1,4 +1,4 @@
-// Reading: the tests of a file before its words, the words, and the lent tables.
+// Reading: the tests of a file before its words, and the words.
 ghost use mathlib.Core.Path.{_≡_};
 ghost use mathlib.Core.Bool.{true};
 ghost use mathlib.Core.List.{_++_};
@@ -6,7 +6,7 @@ ghost use Prim.Native.Nat.{_≤_, _*_, _/_};
 ghost use lib.ListN.{length, drop, replicate};
 ghost use Rattle.model.specs.Rota.{cellCode};
 ghost use Rattle.model.specs.File.{wordsIn, blocksIn, itemsIn, opensIn, calloutsIn, laidOut, fileCode};
-ghost use Rattle.model.specs.Answers.{orElse};
+ghost use Rattle.model.specs.Refusal.{orElse};
 ghost use Rattle.rota_file.specs.Blocks.{allChecked};
 use crate::layout;
 use crate::numbers;
@@ -78,16 +78,4 @@ pub(crate) fn words_in(file: &[u8], place: usize, n: usize) -> [u64; 64]
         i += 1;
     }
     words
-}
-
-// Writes words over the front of a table. `read_file`, and `rota`'s usable table, have tested that it is long enough.
-pub fn store(words: &[u64], table: &mut [u64])
-    requires { ⌜ length (now words) ≤ length (now table) ⌝ }
-    ensures { λ _. ⌜ now (table .exit) ≡ now (words .entry) ++ drop (length (now (words .entry))) (now (table .entry)) ⌝ }
-{
-    let mut i = 0;
-    while i < words.len() {
-        table[i] = words[i];
-        i += 1;
-    }
 }

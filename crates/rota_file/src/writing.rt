@@ -76,7 +76,7 @@ fn write_block(n: u8, b: u8, opens: &[u64], callouts: &[u64], block: &mut [u8])
 }
 
 // All blocks of a rota of n items.
-pub(crate) fn write_blocks(n: usize, opens: &[u64], callouts: &[u64], file: &mut [u8])
+pub fn write_blocks(n: usize, opens: &[u64], callouts: &[u64], file: &mut [u8])
     requires { ⌜ (n ≤ 64) × (length (now opens) ≡ n) × (length (now callouts) ≡ n) × (length (now file) ≡ 512 * blocksFor n) ⌝ }
     ensures { λ _. ⌜ now (file .exit) ≡ fileBytes n (now (opens .entry)) (now (callouts .entry)) ⌝ }
 {

@@ -1,13 +1,10 @@
 // Writes document 01's listing of a rota file to standard output.
-ghost use mathlib.Core.Path.{_≡_};
 ghost use Prim.Native.Nat.{_≤_};
 ghost use lib.ListN.{length};
-ghost use Rattle.words.specs.Word.{bit};
-ghost use Rattle.model.specs.Fewest.{calloutsOf};
 use libc::STDOUT_FILENO;
-use model::Enumerator;
+use model::Lister;
 use model::Plan;
-use rota::Stepped;
+use rota::lister::Stepped;
 
 fn text(s: &[u8]) {
     io::write_all(STDOUT_FILENO, s);
@@ -38,30 +35,6 @@ fn slots(plan: &[u8]) {
     }
 }
 
-// 1 if the slot is in the callout word, else 0.
-fn callout(word: u64, j: u8) -> u64
-    ensures { λ r. ⌜ r ≡ bit word j ⌝ }
-{
-    if 63 < j {
-        return 0;
-    }
-    (word >> j) % 2
-}
-
-// How many of a plan's cells are callouts.
-fn callouts_of(callouts: &[u64], plan: [u8; 64]) -> u64
-    requires { ⌜ length (now callouts) ≤ 64 ⌝ }
-    ensures { λ r. ⌜ r ≡ calloutsOf (now (callouts .entry)) plan ⌝ }
-{
-    let mut total = 0;
-    let mut i = 0;
-    while i < callouts.len() {
-        total += callout(callouts[i], plan[i]);
-        i += 1;
-    }
-    total
-}
-
 // The line of plan k, for as many items as there are callout words.
 fn plan_line(k: u64, plan: [u8; 64], callouts: &[u64])
     requires { ⌜ length (now callouts) ≤ 64 ⌝ }
@@ -70,7 +43,7 @@ fn plan_line(k: u64, plan: [u8; 64], callouts: &[u64])
     text(b":");
     let n = callouts.len();
     slots(&plan[..n]);
-    line(b" / ", callouts_of(callouts, plan));
+    line(b" / ", plan::callouts_of(callouts, plan));
 }
 
 // The line of the plan that a step gave, and the step after it.
@@ -81,8 +54,8 @@ fn list_one(k: u64, s: Stepped, opens: &[u64], callouts: &[u64]) -> Stepped
     let p = a.plan;
     let slots = p.slots;
     plan_line(k, slots, callouts);
-    let e = s.enumerator;
-    rota::step(e, opens.len(), opens, callouts)
+    let e = s.lister;
+    rota::lister::step(e, opens.len(), opens, callouts)
 }
 
 // The number of the refusal, or 0 where the step gave a plan.
@@ -124,11 +97,11 @@ fn refused(code: u32) {
 fn list(opens: &[u64], callouts: &[u64])
     requires { ⌜ length (now callouts) ≤ 64 ⌝ }
 {
-    let fresh = Enumerator {
+    let fresh = Lister {
         started: false,
         plan: Plan { slots: [0; 64] },
     };
-    let first = rota::step(fresh, opens.len(), opens, callouts);
+    let first = rota::lister::step(fresh, opens.len(), opens, callouts);
     let code = code_of(first);
     if code != 0 {
         refused(code);
@@ -144,7 +117,7 @@ pub fn show_fd(fd: i32) {
     let got = io::read_full(fd, &mut file);
     let mut opens = [0u64; 64];
     let mut callouts = [0u64; 64];
-    let read = rota::read_file(&file[..got], &mut opens, &mut callouts);
+    let read = rota::files::rota_read_file(&file[..got], &mut opens, &mut callouts);
     if read.code != 0 {
         refused(read.code);
         return;

@@ -1,1 +1,1 @@
-pub mod Rates
+mod Rates

@@ -3,3 +3,4 @@ pub mod Sums
 pub mod SetLaws
 pub mod Walk
 pub mod Sweep
+pub mod Front

@@ -1,8 +1,10 @@
-// Words of 64 bits as sets of slots 0 to 63: slot j is in w if bit j of w is 1.
+// Words of 64 bits as sets of slots 0 to 63: slot j is in w if bit j of w is 1; and tables of words.
 ghost use mathlib.Core.Path.{_≡_};
 ghost use mathlib.Core.Logic.{_≢_};
+ghost use mathlib.Core.List.{_++_};
 ghost use Prim.Native.Nat.{_^_, _≤_, _<_};
 ghost use lib.Count.{ones};
+ghost use lib.ListN.{length, drop};
 ghost use Rattle.words.specs.Word.{bit, has, with, without, low, lowest, minus, select};
 
 // Whether slot j is in w.
@@ -97,4 +99,16 @@ pub fn wide(x: u8) -> usize
     ensures { λ r. ⌜ r ≡ x ⌝ }
 {
     x as usize
+}
+
+// Copies words over the front of a lent table. The callers have tested that it is long enough.
+pub fn store(words: &[u64], table: &mut [u64])
+    requires { ⌜ length (now words) ≤ length (now table) ⌝ }
+    ensures { λ _. ⌜ now (table .exit) ≡ now (words .entry) ++ drop (length (now (words .entry))) (now (table .entry)) ⌝ }
+{
+    let mut i = 0;
+    while i < words.len() {
+        table[i] = words[i];
+        i += 1;
+    }
 }

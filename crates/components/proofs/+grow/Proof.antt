@@ -7,7 +7,7 @@ use borrow.Fn.Kinds.{In}
 use borrow.Fn.PlainCycle.{Measures, is, falls, and}
 use lib.ListN.{length}
 use Rattle.augment.specs.Table.{own}
-use Rattle.components.proofs.Grows.{Step, unseen, grow-back, step, Turns, turns-start, turns-on}
+use Rattle.components.proofs.Grows.{GrowthStep, unseen, grow-back, step, GrowthTurns, turns-start, turns-on}
 use Rattle.components.proofs.Finishes.{finish-owners, finish}
 use Rattle.components.proofs.grow.Reads as grow
 use Rattle.components.proofs.grow.Kinds as grow-kinds
@@ -47,7 +47,7 @@ claims t = (
 )
 
 abbrev Inv-loop : grow-lts.InvT-loop
-Inv-loop opens owner free allowed₀ rest path set out left₀ all₀ reach₀ next₀ allowed left all reach next = Turns opens owner free rest path set out allowed left all reach next
+Inv-loop opens owner free allowed₀ rest path set out left₀ all₀ reach₀ next₀ allowed left all reach next = GrowthTurns opens owner free rest path set out allowed left all reach next
 
 abbrev μ-loop : grow-lts.MeasureT-loop
 μ-loop opens owner free allowed₀ rest path set out left₀ all₀ reach₀ next₀ allowed left all reach next = unseen left path all
@@ -67,7 +67,7 @@ module _ (t : ℕ) where
 
   -- the search goes on from the lowest slot that is next
   next : (c : After-lowest)
-      → let l = turn c in let a = start l .args in Step (a .opens .now) (a .owner .now) (a .free) (l .loop .allowed) (l .loop .left) (a .path) (l .loop .all) (l .loop .reach) (c .lowest .result)
+      → let l = turn c in let a = start l .args in GrowthStep (a .opens .now) (a .owner .now) (a .free) (l .loop .allowed) (l .loop .left) (a .path) (l .loop .all) (l .loop .reach) (c .lowest .result)
   next c =
       let l = turn c in
       let T = l .loop .inv in

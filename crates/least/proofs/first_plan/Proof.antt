@@ -28,8 +28,8 @@ settle-requires c κs =
 
 returns : tie.Need-returns
 returns c =
-    let k = c .before .before .before .before .before .before .before .before .before in
-    first-found _ (k .before .pre) (range k) _ _ (c .settle .ensures)
+    let k = c .before .before .before .before .before .before .before .before .before .before in
+    c .given .ensures ∙ first-found _ (k .before .pre) (range k) _ _ (c .before .settle .ensures)
 
 no-plan-requires : tie.Need-no-plan-requires
 no-plan-requires c κs = dead-owners _ _ _ _ _ _ (c .before .before .fill .ensures)
@@ -47,6 +47,7 @@ first-plan-spec =
     low-requires-2
     fill-requires
     settle-requires
+    (λ c κs. search needs)
     returns
     no-plan-requires
     returns-2)

@@ -38,11 +38,13 @@ cast-number c = let r = c .before .before in record { fits = omega (arith, numbe
 
 returns-2 : tie.Need-returns-2
 returns-2 c =
-    let r = c .before .before .before .before in
-    answer-within (start (filled r) .pre) _ (r .cheapest .ensures) (omega (arith, c .before .if2 .taken))
+    let r = c .before .before .before .before .before in
+    c .given .ensures ∙ answer-within (start (filled r) .pre) _ (r .cheapest .ensures) (omega (arith, c .before .before .if2 .taken))
 
 returns-3 : tie.Need-returns-3
-returns-3 c = let r = c .before .before .before in answer-over (start (filled r) .pre) _ (r .cheapest .ensures) (omega (arith, c .if2 .left))
+returns-3 c =
+    let r = c .before .before .before .before in
+    c .over-cap .ensures ∙ answer-over (start (filled r) .pre) _ (r .cheapest .ensures) (omega (arith, c .before .if2 .left))
 
 pub fewest-plan-spec : {M : Type 1} → statement M
 fewest-plan-spec =
@@ -57,5 +59,7 @@ fewest-plan-spec =
     (λ c. sym (length-take-le _ (replicate 64 0) (start (c .before .before) .pre .few)))
     cheapest-requires
     cast-number
+    (λ c κs. search needs)
     returns-2
+    (λ c κs. search needs)
     returns-3)

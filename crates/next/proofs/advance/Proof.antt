@@ -1,5 +1,5 @@
 -- `next::advance` meets its contract: an item that can not advance joins the stuck ones, the first that can gives the next plan. Assumes nothing.
-use mathlib.Core.Path.{refl}
+use mathlib.Core.Path.{refl, _∙_}
 use native.Mathlib.Omega.{arith}
 use Rattle.next.proofs.Advances.{Advancing, advancing-start, advancing-slot, advancing-minimizable, advancing-stuck, advancing-below, advancing-settleable, advancing-found, advancing-end}
 use borrow.Author.Needs.{needs}
@@ -46,7 +46,11 @@ settle-requires : tie.Need-settle-requires Inv-loop μ-loop
 settle-requires c κs = advancing-settleable _ _ _ _ _ _ _ _ _ _ _ (c .before .before .before .before .before .before .before .before .before .before .before .loop .inv) (omega arith) (c .before .before .before .before .before .before .before .before .before .wide .ensures) (c .before .before .before .before .before .before .before .before .without .ensures) _ _ _ _ (c .before .before .before .before .before .advance-item .ensures .0 (c .before .before .before .if1 .taken)) _ (c .with .ensures)
 
 returns : tie.Need-returns Inv-loop μ-loop
-returns c = advancing-found _ _ _ _ _ _ _ _ _ _ _ (c .before .before .before .before .before .before .before .before .before .before .before .before .loop .inv) (omega arith) (c .before .before .before .before .before .before .before .before .before .before .wide .ensures) (c .before .before .before .before .before .before .before .before .before .without .ensures) _ _ _ _ (c .before .before .before .before .before .before .advance-item .ensures .0 (c .before .before .before .before .if1 .taken)) _ (c .settle .ensures)
+returns c =
+    let at-item = c .before .before .before .before .before .before .before in
+    let at-slot = at-item .before .before .before .before in
+    c .given .ensures ∙ advancing-found _ _ _ _ _ _ _ _ _ _ _ (at-slot .before .before .loop .inv) (omega arith) (at-slot .wide .ensures) (at-item .before .before .before .without .ensures) _ _ _ _
+    (at-item .advance-item .ensures .0 (c .before .before .before .before .before .if1 .taken)) _ (c .before .settle .ensures)
 
 mul-after : tie.Need-mul-after Inv-loop μ-loop
 mul-after c = omega (arith, c .before .before .before .before .before .before .before .before .loop .inv .within, c .before .before .before .before .before .before .before .before .loop .inv .before .complete .table .few)
@@ -60,11 +64,8 @@ loop-less c = omega arith
 loop-again : tie.Need-loop-again Inv-loop μ-loop
 loop-again c = advancing-stuck _ _ _ _ _ _ _ _ _ _ _ (c .before .before .before .before .before .before .before .before .before .loop .inv) (omega arith) (c .before .before .before .before .before .before .before .wide .ensures) (c .before .before .before .before .before .before .without .ensures) _ _ (c .before .before .before .advance-item .ensures .1 (c .before .if1 .left))
 
-refusal-requires : tie.Need-refusal-requires Inv-loop μ-loop
-refusal-requires c κs = search needs
-
 returns-2 : tie.Need-returns-2 Inv-loop μ-loop
-returns-2 c = rw (c .refusal .ensures) (advancing-end _ _ _ _ _ _ _ _ (c .before .before .loop .inv) (omega arith))
+returns-2 c = rw (c .refused .ensures) (advancing-end _ _ _ _ _ _ _ _ (c .before .before .loop .inv) (omega arith))
 
 pub advance-spec : {M : Type 1} → statement M
 advance-spec =
@@ -83,10 +84,11 @@ advance-spec =
     add-settle
     with-requires
     settle-requires
+    (λ c κs. search needs)
     returns
     mul-after
     shared-slice-read-after
     loop-less
     loop-again
-    refusal-requires
+    (λ c κs. search needs)
     returns-2)

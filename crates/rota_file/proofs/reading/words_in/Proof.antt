@@ -4,7 +4,7 @@ use mathlib.Core.Path.{_≡_, refl}
 use Prim.Native.Nat.{_≤_, _-_}
 use lib.ListN.{replicate, length-take}
 use Rattle.model.specs.File.{wordsIn, blocksIn}
-use Rattle.rota_file.proofs.Turns.{front}
+use Rattle.words.proofs.Front.{front}
 use Rattle.rota_file.proofs.Values.{values-more, values-done}
 use Rattle.rota_file.proofs.reading.words_in.Statement.{statement}
 use Rattle.rota_file.proofs.reading.words_in.Tie as tie

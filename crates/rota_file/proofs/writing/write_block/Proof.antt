@@ -1,6 +1,6 @@
 -- `writing::write_block` meets its contract. Assumes nothing.
 use borrow.Author.Needs.{needs}
-use Rattle.rota_file.proofs.Written.{block-written}
+use Rattle.rota_file.proofs.WrittenBytes.{block-written}
 use Rattle.rota_file.proofs.writing.write_block.Statement.{statement}
 use Rattle.rota_file.proofs.writing.write_block.Tie as tie
 

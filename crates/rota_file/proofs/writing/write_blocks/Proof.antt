@@ -2,7 +2,7 @@
 use native.Mathlib.Omega.{arith}
 use Prim.Native.Nat.{_-_}
 use lib.ListN.{length-take, length-drop}
-use Rattle.rota_file.proofs.Written.{last-item, Blocks, blocks-none, blocks-more, blocks-done}
+use Rattle.rota_file.proofs.WrittenBytes.{last-item, Blocks, blocks-none, blocks-more, blocks-done}
 use Rattle.rota_file.proofs.writing.write_blocks.Statement.{statement}
 use Rattle.rota_file.proofs.writing.write_blocks.Tie as tie
 

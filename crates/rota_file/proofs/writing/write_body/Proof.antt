@@ -1,6 +1,6 @@
 -- `writing::write_body` meets its contract. Assumes nothing.
 use borrow.Author.Needs.{needs}
-use Rattle.rota_file.proofs.Written.{body-written}
+use Rattle.rota_file.proofs.WrittenBytes.{body-written}
 use Rattle.rota_file.proofs.writing.write_body.Statement.{statement}
 use Rattle.rota_file.proofs.writing.write_body.Tie as tie
 

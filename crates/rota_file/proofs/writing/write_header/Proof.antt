@@ -1,7 +1,7 @@
 -- `writing::write_header` meets its contract. Assumes nothing.
 use borrow.Author.Needs.{needs}
 use Rattle.model.specs.File.{mark}
-use Rattle.rota_file.proofs.Written.{header-written}
+use Rattle.rota_file.proofs.WrittenBytes.{header-written}
 use Rattle.rota_file.proofs.writing.write_header.Statement.{statement}
 use Rattle.rota_file.proofs.writing.write_header.Tie as tie
 

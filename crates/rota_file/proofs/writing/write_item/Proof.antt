@@ -1,6 +1,6 @@
 -- `writing::write_item` meets its contract. Assumes nothing.
 use borrow.Author.Needs.{needs}
-use Rattle.rota_file.proofs.Written.{item-written}
+use Rattle.rota_file.proofs.WrittenBytes.{item-written}
 use Rattle.rota_file.proofs.writing.write_item.Statement.{statement}
 use Rattle.rota_file.proofs.writing.write_item.Tie as tie
 

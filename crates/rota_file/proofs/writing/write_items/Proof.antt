@@ -5,7 +5,7 @@ use mathlib.Core.List.{_++_}
 use Prim.Native.Nat.{_≤_, _-_, _*_}
 use lib.ListN.{length, take, drop, length-take, length-drop}
 use Rattle.model.specs.File.{itemBytes}
-use Rattle.rota_file.proofs.Written.{items-more, items-done}
+use Rattle.rota_file.proofs.WrittenBytes.{items-more, items-done}
 use Rattle.rota_file.proofs.writing.write_items.Statement.{statement}
 use Rattle.rota_file.proofs.writing.write_items.Tie as tie
 

@@ -1,0 +1,9 @@
+//! Every public call, once, under its C name (include/rota.h).
+
+pub mod counting;
+pub mod file_plans;
+pub mod files;
+pub mod lister;
+pub mod plans;
+pub mod pricing;
+pub mod usable;

@@ -1,0 +1,155 @@
+-- Demand 3 holds of the calls: model's theorem on lists of lister calls, of which theirs are an instance. Assumes nothing.
+use mathlib.Core.Path.{_≡_, refl, sym, ap, ap₂, _∙_, subst}
+use mathlib.Core.Bool.{Bool, true, false, cond}
+use mathlib.Core.List.{List, [], _∷_, map}
+use Prim.Native.Nat.{ℕ, zero, suc}
+use native.Mathlib.Nat.{suc-inj}
+use native.Mathlib.Omega.{arith}
+use lib.ListN.{length, take, replicate}
+use denote.Ref.{now}
+use Rattle.model.specs.declared.Plan.{Plan}
+use Rattle.model.specs.declared.PlanAnswer.{PlanAnswer}
+use Rattle.model.specs.declared.CountAnswer.{CountAnswer}
+use Rattle.model.specs.declared.Lister.{Lister}
+use Rattle.model.specs.Lists.{Before}
+use Rattle.model.specs.Rota.{tableCode}
+use Rattle.model.specs.Plans.{plans, isPlan, plansAfter}
+use Rattle.model.specs.Allowed.{allowedWords}
+use Rattle.model.specs.Count.{count}
+use Rattle.model.specs.Refusal.{unless}
+use Rattle.model.specs.PlanAnswers.{given, refused, noPlan, firstOf, firstFrom, firstAnswer, nextOf, nextFrom, nextAnswer}
+use Rattle.model.specs.Lister.{listerAnswer, stored, listerAfter}
+use Rattle.model.specs.Listing.{Answered, Chained, IsListing}
+use Rattle.model.specs.UsableAnswers.{usableCode, usableAfter}
+use Rattle.model.proofs.Order.{chain-at}
+use Rattle.model.proofs.Accepted.{accepted}
+use Rattle.model.proofs.Codes.{count-code}
+use Rattle.model.proofs.Plans.{plans-rise, plans-are}
+use Rattle.model.proofs.Allowed.{same-listing, none-allowed}
+use Rattle.model.proofs.Laws.{few, range, no-plans}
+use Rattle.model.proofs.Permanent.{permanent-is-count}
+use Rattle.model.proofs.Listing.{plans-listed}
+use Rattle.demands.specs.Calls.{ListCall}
+use Rattle.demands.specs.Demand3.{entry, exit, ListedCall, made, Over, Kind, CallsFrom, ListingOf, Alone, Demand3}
+use Rattle.demands.proofs.Contracts.{list-met, usable-each, count-each}
+use Rattle.demands.proofs.Demand2.{counted, usable-front}
+
+-- an answer without a refusal is a plan and zeros
+abbrev Gives : PlanAnswer → Type 0
+Gives a = a .code ≡ 0 → a ≡ given (a .plan .slots) 0
+
+module _ (n : ℕ) (opens callouts : List ℕ) where
+  first-gives : Gives (firstAnswer n n opens callouts)
+  unfolding firstAnswer firstFrom firstOf noPlan unless
+  first-gives = go (tableCode n n opens callouts) (plans n opens)
+    where
+      go : (c : ℕ) (l : List (List ℕ)) → Gives (unless refused c (firstOf opens l))
+      go zero [] z = absurd (omega arith)
+      go zero (p ∷ l) z = refl
+      go (suc c) l z = absurd (omega arith)
+
+  next-gives : (g : Plan) → Gives (nextAnswer n n opens callouts g)
+  unfolding nextAnswer nextFrom nextOf unless
+  next-gives g = go (tableCode n n opens callouts) (isPlan n opens (g .slots)) (plansAfter n opens (g .slots))
+    where
+      go : (c : ℕ) (b : Bool) (l : List (List ℕ)) → Gives (unless refused c (cond b (nextOf l) (refused 8)))
+      go zero true [] z = absurd (omega arith)
+      go zero true (p ∷ l) z = refl
+      go zero false l z = absurd (omega arith)
+      go (suc c) b l z = absurd (omega arith)
+
+  lister-gives : (e : Lister) → Gives (listerAnswer e n n opens callouts)
+  unfolding listerAnswer
+  lister-gives e = go (e .started)
+    where
+      go : (b : Bool) → Gives (cond b (nextAnswer n n opens callouts (e .plan)) (firstAnswer n n opens callouts))
+      go true = next-gives (e .plan)
+      go false = first-gives
+
+  -- the calls over the rota answer as the lister does, and leave it as `stored` says
+  abbrev own : Lister → PlanAnswer
+  own e = listerAnswer e n n opens callouts
+
+  left-as : (c : ListCall) (e : Lister) → entry c ≡ e → exit c ≡ stored e (c .answer)
+  unfolding listerAfter
+  left-as c e q = list-met c .1 ∙ ap (stored (entry c)) (sym (list-met c .0)) ∙ ap (λ x. stored x (c .answer)) q
+
+  answers-as : (c : ListCall) (e : Lister) → entry c ≡ e → Over n opens callouts c → c .answer ≡ own e
+  answers-as c e q o =
+      list-met c .0
+      ∙ ap (λ x. listerAnswer x (c .args .1 .0) (c .args .1 .0) (now (c .args .1 .1 .0)) (now (c .args .1 .1 .1 .0))) q
+      ∙ ap (λ k. listerAnswer e k k (now (c .args .1 .1 .0)) (now (c .args .1 .1 .1 .0))) (o .0)
+      ∙ ap₂ (λ x y. listerAnswer e n n x y) (o .1) (o .2)
+
+  chained : (e : Lister) (calls : List ListedCall) → CallsFrom n opens callouts e calls → Chained own e (map made calls)
+  chained e [] c = tt
+  chained e (x ∷ calls) c = (kind (x .ours) (c .1), left-as (x .call) e (c .0), chained (exit (x .call)) calls (c .2))
+    where
+      kind : (b : Bool) → Kind n opens callouts b (x .call) → Answered own b e (x .call .answer)
+      kind true o = answers-as (x .call) e (c .0) o
+      kind false d = d
+
+  -- ---- a listing is model's
+
+  is-listing : (e : Lister) (calls : List ListCall) (l : List (List ℕ)) → ListingOf n opens callouts e calls l → IsListing own e l
+  is-listing e [] l i = absurd i
+  is-listing e (c ∷ calls) [] i = λ z. i .2 (ap (λ (x : PlanAnswer). x .code) (answers-as c e (i .0) (i .1)) ∙ z)
+  is-listing e (c ∷ calls) (p ∷ l) i =
+      let q = answers-as c e (i .0) (i .1) in (
+        lister-gives e (sym (ap (λ (x : PlanAnswer). x .code) q) ∙ i .2)
+            ∙ ap (λ x. given x 0) (sym (ap (λ (x : PlanAnswer). x .plan .slots) q) ∙ i .3),
+        subst (λ x. IsListing own x l) (left-as c e (i .0)
+            ∙ ap (stored e) q) (is-listing (exit c) calls l (i .4)),
+      )
+
+  to-end : (e : Lister) (calls : List ListCall) (l : List (List ℕ)) → Alone n opens callouts e calls → length calls ≡ suc (length l) → IsListing own e l
+      → ListingOf n opens callouts e calls l
+  to-end e [] l a s i = absurd (omega arith)
+  to-end e (c ∷ calls) [] a s i = (a .0, a .1, λ z. i (sym (ap (λ (x : PlanAnswer). x .code) (answers-as c e (a .0) (a .1))) ∙ z))
+  to-end e (c ∷ calls) (p ∷ l) a s i =
+      let q = answers-as c e (a .0) (a .1) ∙ i .0 in
+      let next = left-as c e (a .0) ∙ ap (stored e) (answers-as c e (a .0) (a .1)) in
+      (a .0, a .1, ap (λ (x : PlanAnswer). x .code) q, ap (λ (x : PlanAnswer). x .plan .slots) q, to-end (exit c) calls l (a .2) (suc-inj s) (subst (λ x. IsListing own x l) (sym next) (i .1)))
+
+-- the words that a usable call over the rota wrote
+usable-written : (n : ℕ) (opens callouts : List ℕ) (n′ : ℕ) (o k old : List ℕ) (r : ℕ) (new : List ℕ) → r ≡ usableCode n′ n′ o k (length old)
+    → new ≡ usableAfter n′ n′ o k old
+    → n′ ≡ n → o ≡ opens → k ≡ callouts → r ≡ 0 → take n new ≡ allowedWords n opens
+usable-written n opens callouts n′ o k old r new e w sn so sk z = sym (ap (λ j. take j new) sn) ∙ usable-front n′ o k old new (sym e ∙ z) w ∙ ap₂ allowedWords sn so
+
+-- ---- the theorem
+
+pub demand3 : (n : ℕ) (opens callouts : List ℕ) → tableCode n n opens callouts ≡ 0 → Demand3 n opens callouts
+unfolding count
+demand3 n opens callouts ok =
+    let L = plans-listed n n opens callouts ok in
+    let F = few n n opens callouts ok in
+    let R = range n n opens callouts ok in
+    record {
+      each-call = λ e f calls c. L .each-call e f (map made calls) (chained n opens callouts e calls c);
+      plans-before = L .plans-before;
+      afterwards = λ e f calls c. L .afterwards e f (map made calls) (chained n opens callouts e calls c);
+      listing = λ e f calls l i. L .listing e f l .0 (is-listing n opens callouts e calls l i);
+      to-its-end = λ e f calls a s. to-end n opens callouts e calls (plans n opens) a s (L .listing e f (plans n opens) .1 refl);
+      every-plan = plans-are n opens F R;
+      once = chain-at Before [] (plans n opens) (plans-rise n opens);
+      counted = count-each (λ n′ o k tally r new e w sn so sk z.
+          ap (λ (x : CountAnswer). x .count) e
+          ∙ counted n′ o k (length tally) (sym (count-code n′ n′ o k (length tally)) ∙ sym (ap (λ (x : CountAnswer). x .code) e) ∙ z)
+          ∙ permanent-is-count n′ o ∙ ap₂ count sn so);
+      compared = λ opens″ callouts″ ok″.
+          usable-each (λ n′ o k old r new e w sn so sk z.
+          usable-each (λ n″ o″ k″ old″ r″ new″ e″ w″ sn″ so″ sk″ z″.
+          let a = usable-written n opens callouts n′ o k old r new e w sn so sk z in
+          let b = usable-written n opens″ callouts″ n″ o″ k″ old″ r″ new″ e″ w″ sn″ so″ sk″ z″ in
+          let q = same-listing n opens opens″ F (accepted n n opens″ callouts″ ok″ .open-words
+          ∙ sym (accepted n n opens callouts ok .open-words)) R (range n n opens″ callouts″ ok″) in
+          (λ h. a ∙ q .0 h ∙ sym b, λ h. q .1 (sym a ∙ h ∙ b))));
+      no-plan = λ f.
+          let none = no-plans n opens F R f in (
+            none,
+            usable-each (λ n′ o k old r new e w sn so sk z.
+                usable-written n opens callouts n′ o k old r new e w sn so sk z ∙ none-allowed n opens none
+                ∙ ap (λ j. replicate j 0) (accepted n n opens callouts ok .open-words)),
+          );
+    }

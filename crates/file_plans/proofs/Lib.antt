@@ -1,2 +1,0 @@
-pub mod OnFiles
-mod Buffers

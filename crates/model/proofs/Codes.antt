@@ -1,0 +1,66 @@
+-- The number of each call's answer: that of its first refusal, or what the call itself finds. Assumes nothing.
+use mathlib.Core.Path.{_≡_, refl, _∙_}
+use mathlib.Core.List.{List}
+use Prim.Native.Nat.{ℕ, _*_}
+use Rattle.model.specs.declared.Plan.{Plan}
+use Rattle.model.specs.declared.PlanAnswer.{PlanAnswer}
+use Rattle.model.specs.declared.CountAnswer.{CountAnswer}
+use Rattle.model.specs.declared.GradeAnswer.{GradeAnswer}
+use Rattle.model.specs.declared.PriceAnswer.{PriceAnswer}
+use Rattle.model.specs.declared.ReadAnswer.{ReadAnswer}
+use Rattle.model.specs.declared.WriteAnswer.{WriteAnswer}
+use Rattle.model.specs.Refusal.{orElse, unless}
+use Rattle.model.specs.Rota.{tableCode}
+use Rattle.model.specs.Fewest.{fewest}
+use Rattle.model.specs.Count.{count}
+use Rattle.model.specs.File.{blocksFor, itemsIn, opensIn, calloutsIn}
+use Rattle.model.specs.PlanAnswers.{refused, firstFrom, firstAnswer, nextFrom, nextAnswer, fewestFrom, fewestAnswer}
+use Rattle.model.specs.CountAnswers.{countRefused, countCode, countAnswer}
+use Rattle.model.specs.PriceAnswers.{gradeRefused, gradeBy, gradeAnswer, priceRefused, priceBy, priceCode, priceAnswer}
+use Rattle.model.specs.FileAnswers.{readRefused, readCode, readAnswer, writeRefused, writeCode, writeAnswer, planFileCode, onFile}
+use Rattle.model.proofs.Refusals.{or-none, unless-code}
+
+plan-code : (code : ℕ) (a : PlanAnswer) → unless refused code a .code ≡ orElse code (a .code)
+plan-code = unless-code (λ (x : PlanAnswer). x .code) refused (λ c. refl)
+
+module _ (n m : ℕ) (opens callouts : List ℕ) where
+  pub first-code : firstAnswer n m opens callouts .code ≡ orElse (tableCode n m opens callouts) (firstFrom m opens .code)
+  unfolding firstAnswer
+  first-code = plan-code (tableCode n m opens callouts) (firstFrom m opens)
+
+  pub next-code : (g : Plan) → nextAnswer n m opens callouts g .code ≡ orElse (tableCode n m opens callouts) (nextFrom m opens (g .slots) .code)
+  unfolding nextAnswer
+  next-code g = plan-code (tableCode n m opens callouts) (nextFrom m opens (g .slots))
+
+  pub fewest-code : (cap : ℕ) → fewestAnswer n m opens callouts cap .code ≡ orElse (tableCode n m opens callouts) (fewestFrom m opens callouts cap .code)
+  unfolding fewestAnswer
+  fewest-code cap = plan-code (tableCode n m opens callouts) (fewestFrom m opens callouts cap)
+
+  module _ (words : ℕ) where
+    pub count-code : countAnswer n m opens callouts words .code ≡ countCode n m opens callouts words
+    unfolding countAnswer
+    count-code = unless-code (λ (x : CountAnswer). x .code) countRefused (λ c. refl) (countCode n m opens callouts words) (record { code = 0; count = count m opens }) ∙ or-none _
+
+    pub grade-code : gradeAnswer n m opens callouts words .code ≡ orElse (countCode n m opens callouts words) (gradeBy opens (count m opens) .code)
+    unfolding gradeAnswer
+    grade-code = unless-code (λ (x : GradeAnswer). x .code) gradeRefused (λ c. refl) (countCode n m opens callouts words) (gradeBy opens (count m opens))
+
+    pub price-code : (vehicles : ℕ) → priceAnswer n m opens callouts vehicles words .code
+        ≡ orElse (priceCode n m opens callouts vehicles words) (priceBy opens (count m opens) vehicles (fewest m opens callouts) .code)
+    unfolding priceAnswer
+    price-code vehicles =
+        unless-code (λ (x : PriceAnswer). x .code) priceRefused (λ c. refl) (priceCode n m opens callouts vehicles words) (priceBy opens (count m opens) vehicles (fewest m opens callouts))
+
+  pub write-code : (places : ℕ) → writeAnswer n m opens callouts places .code ≡ writeCode n m opens callouts places
+  unfolding writeAnswer
+  write-code places = unless-code (λ (x : WriteAnswer). x .code) writeRefused (λ c. refl) (writeCode n m opens callouts places) (record { code = 0; bytes = 512 * blocksFor n }) ∙ or-none _
+
+module _ (file : List ℕ) where
+  pub read-code : (o k : ℕ) → readAnswer file o k .code ≡ readCode file o k
+  unfolding readAnswer
+  read-code o k = unless-code (λ (x : ReadAnswer). x .code) readRefused (λ c. refl) (readCode file o k) (record { code = 0; n = itemsIn file }) ∙ or-none _
+
+  pub on-file-code : (places : ℕ) (call : ℕ → List ℕ → List ℕ → PlanAnswer)
+      → onFile file places call .code ≡ orElse (planFileCode file places) (call (itemsIn file) (opensIn file) (calloutsIn file) .code)
+  unfolding onFile
+  on-file-code places call = plan-code (planFileCode file places) (call (itemsIn file) (opensIn file) (calloutsIn file))

@@ -1,0 +1,2 @@
+mod Adopts
+mod Callouts

@@ -1,0 +1,42 @@
+-- `rota_file_fewest_callouts` meets its contract: refused by the file or for room, or the search's answer is stored. Assumes nothing.
+use mathlib.Core.Path.{sym, _∙_}
+use borrow.Author.Needs.{needs}
+use lib.Seq.{length-take-le}
+use Rattle.model.specs.PlanAnswers.{fewestAnswer}
+use Rattle.model.specs.FileAnswers.{fileFewest}
+use Rattle.rota.proofs.OnFiles.{Opened, refused-by-file, opened}
+use Rattle.rota.proofs.file_plans.rota_file_fewest_callouts.Statement.{statement}
+use Rattle.rota.proofs.file_plans.rota_file_fewest_callouts.Tie as tie
+
+open-at : (s : tie.Else1) → Opened (s .before .before .before .before .before .args .file .now) (s .before .before .before .before .before .args .plan .now) (s .before .before .rota-for .result)
+open-at s = opened _ (s .before .before .before .before .before .args .plan .now) _ (s .before .before .rota-for .ensures) (s .if1 .left)
+
+returns : tie.Need-returns
+unfolding fileFewest
+returns c =
+    let start = c .before .before .before .before .before .args in
+    refused-by-file (start .file .now) (start .plan .now) _ (c .before .before .rota-for .ensures) (λ n o k. fewestAnswer n n o k (start .cap)) (c .if1 .taken)
+
+returns-2 : tie.Need-returns-2
+unfolding fileFewest
+returns-2 c =
+    let at-search = c .before .before .before .before .before .before in
+    let at-file = at-search .before .before .before .before .before in
+    let cap = at-file .before .before .before .before .before .args .cap in
+    let o = open-at at-file in
+    o .stores (λ n o k. fewestAnswer n n o k cap) _ (at-search .fewest-plan .ensures ∙ o .fewest cap) _ (c .before .before .store-plan .ensures .0) _ (c .before .before .store-plan .ensures .1)
+
+pub rota-file-fewest-callouts-spec : {M : Type 1} → statement M
+rota-file-fewest-callouts-spec =
+    tie.close
+    (tie.spec
+    (λ c κs. search needs)
+    returns
+    (λ c. open-at (c .before .before) .opens-enough)
+    (λ c. sym (length-take-le _ _ (open-at (c .before .before .before) .opens-enough)))
+    (λ c. open-at (c .before .before .before) .callouts-enough)
+    (λ c. sym (length-take-le _ _ (open-at (c .before .before .before .before) .callouts-enough)))
+    (λ c κs. open-at (c .before .before .before .before) .square)
+    (λ c κs. open-at (c .before .before .before .before .before .before .before .before) .room)
+    (λ c. search needs)
+    returns-2)
