@@ -14,24 +14,6 @@ slot-lt c =
 freed-lt : (c : tie.Else2) → c .before .before .vacate .result .at < 64
 freed-lt c = c .before .before .vacate .ensures .0 (c .if2 .left) .below
 
-lowest-requires : tie.Need-lowest-requires
-lowest-requires c κs = search needs
-
-cast-owner : tie.Need-cast-owner
-cast-owner c = search needs
-
-element-write-owner : tie.Need-element-write-owner
-element-write-owner c = slot-lt c
-
-cast-slot : tie.Need-cast-slot
-cast-slot c = omega (arith, slot-lt c)
-
-element-write-slot : tie.Need-element-write-slot
-element-write-slot c = search needs
-
-without-requires : tie.Need-without-requires
-without-requires c κs = slot-lt c
-
 returns : tie.Need-returns
 returns c =
     let s = c .before .before .before .before in (
@@ -50,21 +32,6 @@ returns-2 c = (
       (r .0, assign-barred _ _ _ _ _ _ _ (c .before .before .before .before .before .before .before .pre) _ (r .1)),
 )
 
-cast-owner-2 : tie.Need-cast-owner-2
-cast-owner-2 c = search needs
-
-element-write-owner-2 : tie.Need-element-write-owner-2
-element-write-owner-2 c = freed-lt c
-
-cast-slot-2 : tie.Need-cast-slot-2
-cast-slot-2 c = omega (arith, freed-lt c)
-
-element-write-slot-2 : tie.Need-element-write-slot-2
-element-write-slot-2 c = search needs
-
-without-requires-2 : tie.Need-without-requires-2
-without-requires-2 c κs = freed-lt c
-
 returns-3 : tie.Need-returns-3
 returns-3 c = (
   λ n.
@@ -76,20 +43,6 @@ returns-3 c = (
 
 pub assign-spec : {M : Type 1} → statement M
 assign-spec =
-    tie.close
-    (tie.spec
-    lowest-requires
-    cast-owner
-    element-write-owner
-    cast-slot
-    element-write-slot
-    without-requires
-    returns
-    vacate-requires
-    returns-2
-    cast-owner-2
-    element-write-owner-2
-    cast-slot-2
-    element-write-slot-2
-    without-requires-2
+    tie.close (tie.spec (λ c κs. search needs) (λ c. search needs) (λ c. slot-lt c) (λ c. omega (arith, slot-lt c)) (λ c. search needs) (λ c κs. slot-lt c)
+    returns vacate-requires returns-2 (λ c. search needs) (λ c. freed-lt c) (λ c. omega (arith, freed-lt c)) (λ c. search needs) (λ c κs. freed-lt c)
     returns-3)

@@ -23,34 +23,16 @@ item c =
     let l = c .before .before .before in
     moving-item _ _ _ _ (start l .pre) _ _ (l .loop .inv) (c .before .lowest .ensures) _ (c .holder .ensures)
 
-loop-holds : tie.Need-loop-holds Inv-loop μ-loop
-loop-holds c = moving-start _ _ _ _ (c .before .pre) (search needs)
-
-lowest-requires : tie.Need-lowest-requires Inv-loop μ-loop
-lowest-requires c κs = search needs
-
 holder-requires : tie.Need-holder-requires Inv-loop μ-loop
 holder-requires c κs =
     let l = c .before .before in
     (start l .pre .owners .owners, moving-slot _ _ _ _ (start l .pre) _ _ (l .loop .inv) (c .lowest .ensures))
-
-mul-has : tie.Need-mul-has Inv-loop μ-loop
-mul-has c = omega (arith, item c, start (c .before .before .before) .pre .owners .few)
-
-shared-slice-read-has : tie.Need-shared-slice-read-has Inv-loop μ-loop
-shared-slice-read-has c = item (c .before)
-
-has-requires : tie.Need-has-requires Inv-loop μ-loop
-has-requires c κs = start (c .before .before .before .before) .pre .below
 
 returns : tie.Need-returns Inv-loop μ-loop
 returns c =
     let l = c .before .before .before .before .before .before in
     moving-found _ _ _ _ (start l .pre) _ _ (l .loop .inv) (c .before .before .before .before .lowest .ensures) _ (c .before .before .before .holder .ensures)
     (bit-one _ _ (sym (c .before .has .ensures) ∙ c .if1 .taken))
-
-without-lowest-requires : tie.Need-without-lowest-requires Inv-loop μ-loop
-without-lowest-requires c κs = c .before .before .before .before .before .loop-test .taken
 
 turned : (c : tie.After-without-lowest Inv-loop μ-loop)
     → let l = c .before .before .before .before .before .before .before in let a = start l .args in
@@ -60,29 +42,12 @@ turned c =
     moving-turn _ _ _ _ (start l .pre) _ _ (l .loop .inv) (c .before .before .before .before .before .lowest .ensures) _ _ (c .before .before .before .before .holder .ensures)
     (bit-none _ _ (sym (c .before .before .has .ensures) ∙ c .before .if1 .left)) (c .without-lowest .ensures)
 
-loop-less : tie.Need-loop-less Inv-loop μ-loop
-loop-less c = turned c .0
-
-loop-again : tie.Need-loop-again Inv-loop μ-loop
-loop-again c = turned c .1
-
 returns-2 : tie.Need-returns-2 Inv-loop μ-loop
 returns-2 c = absurd (moving-end _ _ _ _ (start (c .before) .pre) _ (c .before .loop .inv) (c .loop-test .left))
 
 pub mover-spec : {M : Type 1} → statement M
 mover-spec =
-    tie.close
-    (tie.spec
-    Inv-loop
-    μ-loop
-    loop-holds
-    lowest-requires
-    holder-requires
-    mul-has
-    shared-slice-read-has
-    has-requires
-    returns
-    without-lowest-requires
-    loop-less
-    loop-again
-    returns-2)
+    tie.close (tie.spec Inv-loop μ-loop (λ c. moving-start _ _ _ _ (c .before .pre) (search needs)) (λ c κs. search needs) holder-requires
+    (λ c. omega (arith, item c, start (c .before .before .before) .pre .owners .few)) (λ c. item (c .before))
+    (λ c κs. start (c .before .before .before .before) .pre .below) returns (λ c κs. c .before .before .before .before .before .loop-test .taken)
+    (λ c. turned c .0) (λ c. turned c .1) returns-2)

@@ -31,47 +31,16 @@ turned c =
     spanning-turn _ _ _ (start l .pre) _ _ _ (l .loop .inv) (c .before .before .before .before .loop-test .taken) (c .before .before .before .lowest .ensures) _ _
     (c .before .before .holder .ensures) (c .before .without-lowest .ensures)
 
-loop-holds : tie.Need-loop-holds Inv-loop μ-loop
-loop-holds c = spanning-start _ _ _ (c .before .pre) (search needs)
-
-lowest-requires : tie.Need-lowest-requires Inv-loop μ-loop
-lowest-requires c κs = search needs
-
 holder-requires : tie.Need-holder-requires Inv-loop μ-loop
 holder-requires c κs =
     let l = c .before .before in
     (start l .pre .owners, spanning-slot _ _ _ (start l .pre) _ _ _ (l .loop .inv) (c .before .loop-test .taken) (c .lowest .ensures))
-
-without-lowest-requires : tie.Need-without-lowest-requires Inv-loop μ-loop
-without-lowest-requires c κs = c .before .before .loop-test .taken
-
-mul-all : tie.Need-mul-all Inv-loop μ-loop
-mul-all c = omega (arith, item (c .before), start (c .before .before .before .before) .pre .few)
-
-shared-slice-read-all : tie.Need-shared-slice-read-all Inv-loop μ-loop
-shared-slice-read-all c = item (c .before .before)
-
-loop-less : tie.Need-loop-less Inv-loop μ-loop
-loop-less c = turned c .0
-
-loop-again : tie.Need-loop-again Inv-loop μ-loop
-loop-again c = turned c .1
 
 returns : tie.Need-returns Inv-loop μ-loop
 returns c = spanning-end _ _ _ (start (c .before) .pre) _ _ (c .before .loop .inv) (c .loop-test .left)
 
 pub span-spec : {M : Type 1} → statement M
 span-spec =
-    tie.close
-    (tie.spec
-    Inv-loop
-    μ-loop
-    loop-holds
-    lowest-requires
-    holder-requires
-    without-lowest-requires
-    mul-all
-    shared-slice-read-all
-    loop-less
-    loop-again
-    returns)
+    tie.close (tie.spec Inv-loop μ-loop (λ c. spanning-start _ _ _ (c .before .pre) (search needs)) (λ c κs. search needs) holder-requires
+    (λ c κs. c .before .before .loop-test .taken) (λ c. omega (arith, item (c .before), start (c .before .before .before .before) .pre .few))
+    (λ c. item (c .before .before)) (λ c. turned c .0) (λ c. turned c .1) returns)

@@ -12,12 +12,6 @@ use Rattle.components.proofs.allowed_slots.Tie as tie
 range : (c : tie.After-shared-slice-known) → (x : ℕ) → x < length (c .before .args .opens .now) → getD (c .before .args .opens .now) x 0 < 2 ^ 64
 range c x h = omega (arith, c .shared-slice-known .given x)
 
-low-requires : tie.Need-low-requires
-low-requires c κs = search needs
-
-low-requires-2 : tie.Need-low-requires-2
-low-requires-2 c κs = search needs
-
 fill-requires : tie.Need-fill-requires
 fill-requires c κs = rw (c .before .low .ensures) (all-fillable _ (c .before .before .before .before .before .pre) (range (c .before .before .before .before)) _ (c .low2 .ensures))
 
@@ -27,16 +21,5 @@ returns c = none-allowed _ (c .before .before .before .before .before .before .b
 allowed-words-requires : tie.Need-allowed-words-requires
 allowed-words-requires c κs = record { slot = _; complete = none-exposed-complete _ _ _ _ _ _ (c .before .before .before .fill .ensures) (c .before .if1 .left) }
 
-returns-2 : tie.Need-returns-2
-returns-2 c = search needs
-
 pub allowed-slots-spec : {M : Type 1} → statement M
-allowed-slots-spec =
-    tie.close
-    (tie.spec
-    low-requires
-    low-requires-2
-    fill-requires
-    returns
-    allowed-words-requires
-    returns-2)
+allowed-slots-spec = tie.close (tie.spec (λ c κs. search needs) (λ c κs. search needs) fill-requires returns allowed-words-requires (λ c. search needs))

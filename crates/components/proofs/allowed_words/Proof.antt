@@ -4,11 +4,9 @@ use Rattle.components.proofs.Grows.{grow-start, grow-end}
 use Rattle.components.proofs.allowed_words.Statement.{statement}
 use Rattle.components.proofs.allowed_words.Tie as tie
 
-grow-requires : tie.Need-grow-requires
-grow-requires c κs = rw (c .before .low .ensures) (c .before .before .before .pre, grow-start _ _ _)
-
 returns : tie.Need-returns
 returns c = grow-end (c .before .before .before .before .pre) (rw (c .before .before .low .ensures) at (c .grow .ensures))
 
 pub allowed-words-spec : {M : Type 1} → statement M
-allowed-words-spec = tie.close (tie.spec (λ c κs. search needs) grow-requires returns)
+allowed-words-spec =
+    tie.close (tie.spec (λ c κs. search needs) (λ c κs. rw (c .before .low .ensures) (c .before .before .before .pre, grow-start _ _ _)) returns)

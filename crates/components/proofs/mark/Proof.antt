@@ -25,30 +25,6 @@ turn c = visit (start c .pre .0) (c .before .loop .inv) (c .loop-test .taken)
 item : (c : tie.After-holder Inv-loop μ-loop) → (c .holder .result < length (start (c .before .before) .args .opens .now)) × (c .holder .result < 64)
 item c = rw (c .holder .ensures, c .before .lowest .ensures) (turn (c .before .before) .item, turn (c .before .before) .room)
 
-loop-holds : tie.Need-loop-holds Inv-loop μ-loop
-loop-holds c = marking-start (c .before .pre .0) (search needs) (c .before .pre .1)
-
-holder-requires : tie.Need-holder-requires Inv-loop μ-loop
-holder-requires c κs = rw (c .lowest .ensures) (start (c .before) .pre .0 .owners, turn (c .before) .below)
-
-without-lowest-requires : tie.Need-without-lowest-requires Inv-loop μ-loop
-without-lowest-requires c κs = c .before .before .loop-test .taken
-
-mul-allowed : tie.Need-mul-allowed Inv-loop μ-loop
-mul-allowed c = omega (arith, item (c .before))
-
-shared-slice-read-allowed : tie.Need-shared-slice-read-allowed Inv-loop μ-loop
-shared-slice-read-allowed c = item (c .before .before) .0
-
-mul-allowed-2 : tie.Need-mul-allowed-2 Inv-loop μ-loop
-mul-allowed-2 c = omega (arith, item (c .before .before))
-
-element-write-allowed : tie.Need-element-write-allowed Inv-loop μ-loop
-element-write-allowed c = item (c .before .before) .1
-
-loop-less : tie.Need-loop-less Inv-loop μ-loop
-loop-less c = rw (c .before .without-lowest .ensures) (turn (c .before .before .before .before) .less)
-
 loop-again : tie.Need-loop-again Inv-loop μ-loop
 loop-again c =
     rw (c .before .without-lowest .ensures, c .before .before .holder .ensures, c .before .before .before .lowest .ensures)
@@ -59,18 +35,7 @@ returns c = marking-end (c .before .before .before .pre .0) (c .before .loop .in
 
 pub mark-spec : {M : Type 1} → statement M
 mark-spec =
-    tie.close
-    (tie.spec
-    Inv-loop
-    μ-loop
-    loop-holds
-    (λ c κs. search needs)
-    holder-requires
-    without-lowest-requires
-    mul-allowed
-    shared-slice-read-allowed
-    mul-allowed-2
-    element-write-allowed
-    loop-less
-    loop-again
-    returns)
+    tie.close (tie.spec Inv-loop μ-loop (λ c. marking-start (c .before .pre .0) (search needs) (c .before .pre .1)) (λ c κs. search needs)
+    (λ c κs. rw (c .lowest .ensures) (start (c .before) .pre .0 .owners, turn (c .before) .below)) (λ c κs. c .before .before .loop-test .taken)
+    (λ c. omega (arith, item (c .before))) (λ c. item (c .before .before) .0) (λ c. omega (arith, item (c .before .before)))
+    (λ c. item (c .before .before) .1) (λ c. rw (c .before .without-lowest .ensures) (turn (c .before .before .before .before) .less)) loop-again returns)

@@ -13,12 +13,6 @@ use Rattle.least.proofs.first_plan.Tie as tie
 range : (c : tie.After-shared-slice-known) → (x : ℕ) → x < length (c .before .args .opens .now) → getD (c .before .args .opens .now) x 0 < 2 ^ 64
 range c x h = omega (arith, c .shared-slice-known .given x)
 
-low-requires : tie.Need-low-requires
-low-requires c κs = search needs
-
-low-requires-2 : tie.Need-low-requires-2
-low-requires-2 c κs = search needs
-
 fill-requires : tie.Need-fill-requires
 fill-requires c κs = let k = c .before .before .before .before in rw (c .before .low .ensures) (all-fillable _ (k .before .pre) (range k) _ (c .low2 .ensures))
 
@@ -31,9 +25,6 @@ returns c =
     let k = c .before .before .before .before .before .before .before .before .before .before in
     c .given .ensures ∙ first-found _ (k .before .pre) (range k) _ _ (c .before .settle .ensures)
 
-no-plan-requires : tie.Need-no-plan-requires
-no-plan-requires c κs = dead-owners _ _ _ _ _ _ (c .before .before .fill .ensures)
-
 returns-2 : tie.Need-returns-2
 returns-2 c =
     let k = c .before .before .before .before .before .before .before .before in
@@ -41,13 +32,5 @@ returns-2 c =
 
 pub first-plan-spec : {M : Type 1} → statement M
 first-plan-spec =
-    tie.close
-    (tie.spec
-    low-requires
-    low-requires-2
-    fill-requires
-    settle-requires
-    (λ c κs. search needs)
-    returns
-    no-plan-requires
-    returns-2)
+    tie.close (tie.spec (λ c κs. search needs) (λ c κs. search needs) fill-requires settle-requires (λ c κs. search needs) returns
+    (λ c κs. dead-owners _ _ _ _ _ _ (c .before .before .fill .ensures)) returns-2)

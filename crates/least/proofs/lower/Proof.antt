@@ -19,21 +19,6 @@ start c = c .before .before .before .before .before
 slot-lt : (c : tie.At-loop Inv-loop μ-loop) → c .loop .s < 64
 slot-lt c = lowering-slot _ _ _ _ _ _ _ (start c .pre) _ _ _ _ (c .loop .inv)
 
-minus-requires : tie.Need-minus-requires Inv-loop μ-loop
-minus-requires c κs = search needs
-
-element-copy-out-wide : tie.Need-element-copy-out-wide Inv-loop μ-loop
-element-copy-out-wide c = search needs
-
-wide-requires : tie.Need-wide-requires Inv-loop μ-loop
-wide-requires c κs = search needs
-
-loop-holds : tie.Need-loop-holds Inv-loop μ-loop
-loop-holds c = lowering-start _ _ _ _ _ _ _ (c .before .before .before .before .pre) _ (c .wide .ensures)
-
-low-requires : tie.Need-low-requires Inv-loop μ-loop
-low-requires c κs = omega (arith, slot-lt (c .before))
-
 returns : tie.Need-returns Inv-loop μ-loop
 returns c =
     let l = c .before .before .before in
@@ -58,29 +43,11 @@ turned c =
     lowering-turn _ _ _ _ _ _ _ (start l .pre) _ _ _ _ (l .loop .inv) _ _ _ (search needs) (l .before .before .before .minus .ensures) (c .before .before .before .before .before .before .low .ensures)
     refl _ _ _ _ (c .before .before .shift .ensures .0 (c .if2 .left))
 
-loop-less : tie.Need-loop-less Inv-loop μ-loop
-loop-less c = turned c .0
-
-loop-again : tie.Need-loop-again Inv-loop μ-loop
-loop-again c = turned c .1
-
 returns-3 : tie.Need-returns-3 Inv-loop μ-loop
 returns-3 c = let l = c .before in lowering-zero _ _ _ _ _ _ _ (start l .pre) _ _ _ _ (l .loop .inv) (c .loop-test .left)
 
 pub lower-spec : {M : Type 1} → statement M
 lower-spec =
-    tie.close
-    (tie.spec
-    Inv-loop
-    μ-loop
-    minus-requires
-    element-copy-out-wide
-    wide-requires
-    loop-holds
-    low-requires
-    returns
-    shift-requires
-    returns-2
-    loop-less
-    loop-again
-    returns-3)
+    tie.close (tie.spec Inv-loop μ-loop (λ c κs. search needs) (λ c. search needs) (λ c κs. search needs)
+    (λ c. lowering-start _ _ _ _ _ _ _ (c .before .before .before .before .pre) _ (c .wide .ensures)) (λ c κs. omega (arith, slot-lt (c .before))) returns
+    shift-requires returns-2 (λ c. turned c .0) (λ c. turned c .1) returns-3)

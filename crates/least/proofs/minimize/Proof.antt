@@ -5,18 +5,6 @@ use borrow.Author.Needs.{needs}
 use Rattle.least.proofs.minimize.Statement.{statement}
 use Rattle.least.proofs.minimize.Tie as tie
 
-element-copy-out-wide : tie.Need-element-copy-out-wide
-element-copy-out-wide c = search needs
-
-wide-requires : tie.Need-wide-requires
-wide-requires c κs = search needs
-
-mul-word : tie.Need-mul-word
-mul-word c = search needs
-
-shared-slice-read-word : tie.Need-shared-slice-read-word
-shared-slice-read-word c = search needs
-
 can-leave-requires : tie.Need-can-leave-requires
 can-leave-requires c κs = minimize-slot _ _ _ _ _ _ _ _ (c .before .before .before .before .pre) (search needs) (c .before .wide .ensures)
 
@@ -28,18 +16,7 @@ returns c =
 lower-requires : tie.Need-lower-requires
 lower-requires c κs = minimize-lowerable _ _ _ _ _ _ _ _ (c .before .before .before .before .before .before .before .before .pre) (search needs) (c .before .before .before .before .before .wide .ensures) _ refl
 
-returns-2 : tie.Need-returns-2
-returns-2 c = search needs
-
 pub minimize-spec : {M : Type 1} → statement M
 minimize-spec =
-    tie.close
-    (tie.spec
-    element-copy-out-wide
-    wide-requires
-    mul-word
-    shared-slice-read-word
-    can-leave-requires
-    returns
-    lower-requires
-    returns-2)
+    tie.close (tie.spec (λ c. search needs) (λ c κs. search needs) (λ c. search needs) (λ c. search needs) can-leave-requires returns lower-requires
+    (λ c. search needs))

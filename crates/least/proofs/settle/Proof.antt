@@ -13,18 +13,6 @@ Inv-loop opens owner₀ slot₀ free from fixed table f₀ fixed-now₀ i₀ own
 abbrev μ-loop : tie.MeasureT-loop
 μ-loop opens owner₀ slot₀ free from fixed table f₀ fixed-now₀ i₀ owner slot f fixed-now i = length opens - i
 
-later-requires : tie.Need-later-requires Inv-loop μ-loop
-later-requires c κs = (c .before .before .pre .before .complete .table .few, refl)
-
-loop-holds : tie.Need-loop-holds Inv-loop μ-loop
-loop-holds c = settling-start _ _ _ _ _ _ (c .before .before .before .pre)
-
-mul-after : tie.Need-mul-after Inv-loop μ-loop
-mul-after c = omega (arith, c .before .loop .inv .before .complete .table .few)
-
-array-read-after : tie.Need-array-read-after Inv-loop μ-loop
-array-read-after c = omega (arith, c .before .loop .inv .before .complete .table .few)
-
 minimize-requires : tie.Need-minimize-requires Inv-loop μ-loop
 minimize-requires c κs =
     let l = c .before .before .before in
@@ -36,34 +24,15 @@ with-requires c κs =
     let l = c .before .before .before .before in
     settling-slot _ _ _ _ _ _ _ _ (l .loop .inv) (c .before .before .before .loop-test .taken) _ _ _ _ (c .minimize .ensures)
 
-add-i : tie.Need-add-i Inv-loop μ-loop
-add-i c = omega arith
-
-loop-less : tie.Need-loop-less Inv-loop μ-loop
-loop-less c = omega arith
-
 loop-again : tie.Need-loop-again Inv-loop μ-loop
 loop-again c =
     let l = c .before .before .before .before .before in
     settling-turn _ _ _ _ _ _ _ _ (l .loop .inv) (c .before .before .before .before .loop-test .taken) _ _ _ _ (c .before .minimize .ensures) _
     (c .with .ensures)
 
-returns : tie.Need-returns Inv-loop μ-loop
-returns c = settling-end _ _ _ _ _ _ _ _ (c .before .loop .inv) (c .loop-test .left)
-
 pub settle-spec : {M : Type 1} → statement M
 settle-spec =
-    tie.close
-    (tie.spec
-    Inv-loop
-    μ-loop
-    later-requires
-    loop-holds
-    mul-after
-    array-read-after
-    minimize-requires
-    with-requires
-    add-i
-    loop-less
-    loop-again
-    returns)
+    tie.close (tie.spec Inv-loop μ-loop (λ c κs. (c .before .before .pre .before .complete .table .few, refl))
+    (λ c. settling-start _ _ _ _ _ _ (c .before .before .before .pre)) (λ c. omega (arith, c .before .loop .inv .before .complete .table .few))
+    (λ c. omega (arith, c .before .loop .inv .before .complete .table .few)) minimize-requires with-requires (λ c. omega arith) (λ c. omega arith)
+    loop-again (λ c. settling-end _ _ _ _ _ _ _ _ (c .before .loop .inv) (c .loop-test .left)))

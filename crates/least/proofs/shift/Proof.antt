@@ -4,12 +4,6 @@ use borrow.Author.Needs.{needs}
 use Rattle.least.proofs.shift.Statement.{statement}
 use Rattle.least.proofs.shift.Tie as tie
 
-element-copy-out-wide : tie.Need-element-copy-out-wide
-element-copy-out-wide c = search needs
-
-wide-requires : tie.Need-wide-requires
-wide-requires c κs = search needs
-
 with-requires : tie.Need-with-requires
 with-requires c κs = shift-slot _ _ _ _ _ _ _ _ 0 (c .before .before .before .before .before .pre) (c .before .before .wide .ensures)
 
@@ -26,11 +20,4 @@ returns c =
     )
 
 pub shift-spec : {M : Type 1} → statement M
-shift-spec =
-    tie.close
-    (tie.spec
-    element-copy-out-wide
-    wide-requires
-    with-requires
-    assign-requires
-    returns)
+shift-spec = tie.close (tie.spec (λ c. search needs) (λ c κs. search needs) with-requires assign-requires returns)

@@ -12,19 +12,10 @@ Inv-loop owner exposed dead all₀ left₀ all left = Gathering owner exposed de
 abbrev μ-loop : tie.MeasureT-loop
 μ-loop owner exposed dead all₀ left₀ all left = left
 
-loop-holds : tie.Need-loop-holds Inv-loop μ-loop
-loop-holds c = gathering-start _ _ _ (c .pre .1) (search needs) (search needs)
-
-lowest-requires : tie.Need-lowest-requires Inv-loop μ-loop
-lowest-requires c κs = search needs
-
 holder-requires : tie.Need-holder-requires Inv-loop μ-loop
 holder-requires c κs =
     let l = c .before .before in
     (l .before .pre .0, gathering-slot _ _ _ (l .before .pre .1) _ _ _ (l .loop .inv) (c .before .loop-test .taken) (c .lowest .ensures))
-
-without-lowest-requires : tie.Need-without-lowest-requires Inv-loop μ-loop
-without-lowest-requires c κs = c .before .before .loop-test .taken
 
 with-requires : tie.Need-with-requires Inv-loop μ-loop
 with-requires c κs =
@@ -39,26 +30,10 @@ turned c =
     gathering-turn _ _ _ (l .before .pre .1) _ _ _ (l .loop .inv) (c .before .before .before .before .loop-test .taken) (c .before .before .before .lowest .ensures) _ _ _
     (c .before .before .holder .ensures) (c .before .without-lowest .ensures) (c .with .ensures)
 
-loop-less : tie.Need-loop-less Inv-loop μ-loop
-loop-less c = turned c .0
-
-loop-again : tie.Need-loop-again Inv-loop μ-loop
-loop-again c = turned c .1
-
 returns : tie.Need-returns Inv-loop μ-loop
 returns c = gathering-end _ _ _ (c .before .before .pre .1) _ _ (search needs) (c .before .loop .inv) (c .loop-test .left)
 
 pub deficient-set-spec : {M : Type 1} → statement M
 deficient-set-spec =
-    tie.close
-    (tie.spec
-    Inv-loop
-    μ-loop
-    loop-holds
-    lowest-requires
-    holder-requires
-    without-lowest-requires
-    with-requires
-    loop-less
-    loop-again
-    returns)
+    tie.close (tie.spec Inv-loop μ-loop (λ c. gathering-start _ _ _ (c .pre .1) (search needs) (search needs)) (λ c κs. search needs) holder-requires
+    (λ c κs. c .before .before .loop-test .taken) with-requires (λ c. turned c .0) (λ c. turned c .1) returns)

@@ -19,36 +19,12 @@ item c =
     filling-item _ _ _ _ _ _ _ _ _ (c .without-lowest .result) 0 (c .before .before .before .loop .inv) (c .before .before .loop-test .taken) (c .before .lowest .ensures)
     (c .without-lowest .ensures)
 
-loop-holds : tie.Need-loop-holds Inv-loop μ-loop
-loop-holds c = filling-start _ _ _ _ _ (search needs) (c .before .pre)
-
-lowest-requires : tie.Need-lowest-requires Inv-loop μ-loop
-lowest-requires c κs = search needs
-
-without-lowest-requires : tie.Need-without-lowest-requires Inv-loop μ-loop
-without-lowest-requires c κs = c .before .loop-test .taken
-
-mul-minus : tie.Need-mul-minus Inv-loop μ-loop
-mul-minus c = omega (arith, item c, c .before .before .before .loop .inv .table .few)
-
-shared-slice-read-minus : tie.Need-shared-slice-read-minus Inv-loop μ-loop
-shared-slice-read-minus c = item (c .before)
-
-minus-requires : tie.Need-minus-requires Inv-loop μ-loop
-minus-requires c κs = search needs
-
 less : (c : tie.After-without-lowest Inv-loop μ-loop) → c .without-lowest .result < c .before .before .before .loop .left
 less c =
     filling-less _ _ _ _ _ _ _ _ _ _ 0 (c .before .before .before .loop .inv) (c .before .before .loop-test .taken) (c .before .lowest .ensures) (c .without-lowest .ensures)
 
 below : (c : tie.After-without-lowest Inv-loop μ-loop) → c .before .lowest .result < 64
 below c = omega (arith, item c, c .before .before .before .loop .inv .table .few)
-
-with-requires : tie.Need-with-requires Inv-loop μ-loop
-with-requires c κs = below (c .before .before .before)
-
-loop-less : tie.Need-loop-less Inv-loop μ-loop
-loop-less c = less (c .before .before .before .before)
 
 loop-again : tie.Need-loop-again Inv-loop μ-loop
 loop-again c =
@@ -64,21 +40,12 @@ assign-requires c κs =
     filling-assignable _ _ _ _ _ _ _ _ _ _ _ (v .before .before .before .loop .inv) (v .before .before .loop-test .taken) (v .before .lowest .ensures) (v .without-lowest .ensures)
     (m .minus .ensures)
 
-with-requires-2 : tie.Need-with-requires-2 Inv-loop μ-loop
-with-requires-2 c κs = below (c .before .before .before .before .before .before .before .before)
-
-loop-less-2 : tie.Need-loop-less-2 Inv-loop μ-loop
-loop-less-2 c = less (c .before .before .before .before .before .before .before .before .before)
-
 loop-again-2 : tie.Need-loop-again-2 Inv-loop μ-loop
 loop-again-2 c =
     let m = c .before .before .before .before .before .before .before in
     let v = m .before .before in
     filling-failed _ _ _ _ _ _ _ _ _ _ _ (v .before .before .before .loop .inv) (v .before .before .loop-test .taken) (v .before .lowest .ensures) (v .without-lowest .ensures)
     (m .minus .ensures) _ _ _ _ (search needs) (c .with2 .ensures) (c .before .before .before .assign .ensures .1 (c .before .if2 .taken))
-
-loop-less-3 : tie.Need-loop-less-3 Inv-loop μ-loop
-loop-less-3 c = less (c .before .before .before .before .before .before .before .before)
 
 loop-again-3 : tie.Need-loop-again-3 Inv-loop μ-loop
 loop-again-3 c =
@@ -87,28 +54,12 @@ loop-again-3 c =
     filling-found _ _ _ _ _ _ _ _ _ _ _ (v .before .before .before .loop .inv) (v .before .before .loop-test .taken) (v .before .lowest .ensures) (v .without-lowest .ensures)
     (m .minus .ensures) _ _ _ _ (c .before .before .assign .ensures .0 (c .if2 .left))
 
-returns : tie.Need-returns Inv-loop μ-loop
-returns c = filling-end _ _ _ _ _ _ _ _ (c .before .loop .inv) (c .loop-test .left)
-
 pub fill-spec : {M : Type 1} → statement M
 fill-spec =
-    tie.close
-    (tie.spec
-    Inv-loop
-    μ-loop
-    loop-holds
-    lowest-requires
-    without-lowest-requires
-    mul-minus
-    shared-slice-read-minus
-    minus-requires
-    with-requires
-    loop-less
-    loop-again
-    assign-requires
-    with-requires-2
-    loop-less-2
-    loop-again-2
-    loop-less-3
-    loop-again-3
-    returns)
+    tie.close (tie.spec Inv-loop μ-loop (λ c. filling-start _ _ _ _ _ (search needs) (c .before .pre)) (λ c κs. search needs)
+    (λ c κs. c .before .loop-test .taken) (λ c. omega (arith, item c, c .before .before .before .loop .inv .table .few)) (λ c. item (c .before))
+    (λ c κs. search needs) (λ c κs. below (c .before .before .before)) (λ c. less (c .before .before .before .before)) loop-again assign-requires
+    (λ c κs. below (c .before .before .before .before .before .before .before .before))
+    (λ c. less (c .before .before .before .before .before .before .before .before .before)) loop-again-2
+    (λ c. less (c .before .before .before .before .before .before .before .before)) loop-again-3
+    (λ c. filling-end _ _ _ _ _ _ _ _ (c .before .loop .inv) (c .loop-test .left)))

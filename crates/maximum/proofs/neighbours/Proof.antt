@@ -23,21 +23,6 @@ item c =
     nearing-item _ (range (l .before)) _ (l .before .before .pre .1) _ _ _ _ (l .loop .inv) (c .before .before .loop-test .taken) (c .before .lowest .ensures)
     (c .without-lowest .ensures)
 
-loop-holds : tie.Need-loop-holds Inv-loop μ-loop
-loop-holds c = nearing-start _ (range c) _ (c .before .pre .1) (search needs)
-
-lowest-requires : tie.Need-lowest-requires Inv-loop μ-loop
-lowest-requires c κs = search needs
-
-without-lowest-requires : tie.Need-without-lowest-requires Inv-loop μ-loop
-without-lowest-requires c κs = c .before .loop-test .taken
-
-mul-all : tie.Need-mul-all Inv-loop μ-loop
-mul-all c = omega (arith, item c, c .before .before .before .before .before .pre .0)
-
-shared-slice-read-all : tie.Need-shared-slice-read-all Inv-loop μ-loop
-shared-slice-read-all c = item (c .before)
-
 turned : (c : tie.After-shared-slice-known2 Inv-loop μ-loop)
     → let v = c .before in let l = v .before .before .before in let a = l .before .before .args in
     (v .without-lowest .result < l .loop .left) × Nearing (a .opens .now) (a .items) (bitOr (l .loop .all) (getD (a .opens .now) (v .before .lowest .result) 0)) (v .without-lowest .result)
@@ -47,26 +32,11 @@ turned c =
     nearing-turn _ (range (l .before)) _ (l .before .before .pre .1) _ _ _ _ (l .loop .inv) (v .before .before .loop-test .taken) (v .before .lowest .ensures)
     (v .without-lowest .ensures)
 
-loop-less : tie.Need-loop-less Inv-loop μ-loop
-loop-less c = turned c .0
-
-loop-again : tie.Need-loop-again Inv-loop μ-loop
-loop-again c = turned c .1
-
 returns : tie.Need-returns Inv-loop μ-loop
 returns c = nearing-end _ (range (c .before .before)) _ (c .before .before .before .pre .1) _ _ (c .before .loop .inv) (c .loop-test .left)
 
 pub neighbours-spec : {M : Type 1} → statement M
 neighbours-spec =
-    tie.close
-    (tie.spec
-    Inv-loop
-    μ-loop
-    loop-holds
-    lowest-requires
-    without-lowest-requires
-    mul-all
-    shared-slice-read-all
-    loop-less
-    loop-again
-    returns)
+    tie.close (tie.spec Inv-loop μ-loop (λ c. nearing-start _ (range c) _ (c .before .pre .1) (search needs)) (λ c κs. search needs)
+    (λ c κs. c .before .loop-test .taken) (λ c. omega (arith, item c, c .before .before .before .before .before .pre .0)) (λ c. item (c .before))
+    (λ c. turned c .0) (λ c. turned c .1) returns)

@@ -4,15 +4,6 @@ use Rattle.maximum.proofs.Refilling.{refill-vacatable, refill-certifica
 use Rattle.maximum.proofs.refill.Statement.{statement}
 use Rattle.maximum.proofs.refill.Tie as tie
 
-neighbours-requires : tie.Need-neighbours-requires
-neighbours-requires c κs = let F = c .before .pre .fillable in (F .table .few, F .items)
-
-fill-requires : tie.Need-fill-requires
-fill-requires c κs = c .before .before .before .before .before .pre .fillable
-
-returns : tie.Need-returns
-returns c = c .fill .ensures
-
 vacate-requires : tie.Need-vacate-requires
 vacate-requires c κs = refill-vacatable (c .before .before .before .before .before .pre) (c .before .before .before .neighbours .ensures) (c .before .before .if1 .left)
 
@@ -27,17 +18,8 @@ fill-requires-2 c κs =
     let n = c .before .before .before .before .before .before .before .before in
     refill-vacated (n .before .before .pre) (n .neighbours .ensures) (c .before .before .before .before .vacate .ensures .0 (c .before .before .if2 .left))
 
-returns-3 : tie.Need-returns-3
-returns-3 c = c .fill2 .ensures
-
 pub refill-spec : {M : Type 1} → statement M
 refill-spec =
-    tie.close
-    (tie.spec
-    neighbours-requires
-    fill-requires
-    returns
-    vacate-requires
-    returns-2
-    fill-requires-2
-    returns-3)
+    tie.close (tie.spec (λ c κs. let F = c .before .pre .fillable in (F .table .few, F .items))
+    (λ c κs. c .before .before .before .before .before .pre .fillable) (λ c. c .fill .ensures) vacate-requires returns-2 fill-requires-2
+    (λ c. c .fill2 .ensures))

@@ -88,25 +88,10 @@ returns c =
 
 pub cheapest-spec : {M : Type 1} → statement M
 cheapest-spec =
-    tie.close
-    (tie.spec
-    Inv-loop
-    μ-loop
-    (λ c κs. search needs)
-    (λ c. search needs)
+    tie.close (tie.spec Inv-loop μ-loop (λ c κs. search needs) (λ c. search needs)
     (λ c κs. let b = c .before .before .before in let P = start b .pre in ready-raisable (P .0) (start-ready (P .0) (b .low .ensures)) (P .2))
-    (λ c κs. omega arith)
-    fill-requires
-    (λ c. let a = c .before .before .before .before .before .before .before in let b = a .before .before .before .before in
-    ready-rounds (start b .pre .0) (start-ready (start b .pre .0) (b .low .ensures)) (a .raise .ensures) (c .fill .ensures))
-    (λ c κs. search needs)
-    (λ c. omega (arith, number-room c))
-    (λ c κs. dead-owners _ _ _ _ _ _ (c .before .before .before .before .loop .inv .filled))
-    (λ c κs. c .before .before .before .before .before .before .loop .inv .ready .levels .sized)
-    raise-requires-2
-    refill-requires
-    loop-less
-    loop-again
-    settle-requires
-    (λ c. search needs)
-    returns)
+    (λ c κs. omega arith) fill-requires
+    (λ c. let a = c .before .before .before .before .before .before .before in let b = a .before .before .before .before in ready-rounds (start b .pre .0) (start-ready (start b .pre .0) (b .low .ensures)) (a .raise .ensures) (c .fill .ensures))
+    (λ c κs. search needs) (λ c. omega (arith, number-room c)) (λ c κs. dead-owners _ _ _ _ _ _ (c .before .before .before .before .loop .inv .filled))
+    (λ c κs. c .before .before .before .before .before .before .loop .inv .ready .levels .sized) raise-requires-2 refill-requires loop-less loop-again
+    settle-requires (λ c. search needs) returns)

@@ -48,18 +48,6 @@ returns-3 c =
 
 pub fewest-plan-spec : {M : Type 1} → statement M
 fewest-plan-spec =
-    tie.close
-    (tie.spec
-    (λ c κs. search needs)
-    (λ c κs. search needs)
-    fill-requires
-    (λ c κs. dead-owners _ _ _ _ _ _ (c .before .before .fill .ensures))
-    returns
-    (λ c. search needs)
-    (λ c. sym (length-take-le _ (replicate 64 0) (start (c .before .before) .pre .few)))
-    cheapest-requires
-    cast-number
-    (λ c κs. search needs)
-    returns-2
-    (λ c κs. search needs)
-    returns-3)
+    tie.close (tie.spec (λ c κs. search needs) (λ c κs. search needs) fill-requires (λ c κs. dead-owners _ _ _ _ _ _ (c .before .before .fill .ensures))
+    returns (λ c. search needs) (λ c. sym (length-take-le _ (replicate 64 0) (start (c .before .before) .pre .few))) cheapest-requires cast-number
+    (λ c κs. search needs) returns-2 (λ c κs. search needs) returns-3)

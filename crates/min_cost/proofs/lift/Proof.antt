@@ -15,22 +15,8 @@ abbrev μ-loop : tie.MeasureT-loop
 loop-again : tie.Need-loop-again Inv-loop μ-loop
 loop-again c = let l = c .before .before .before in lifting-turn (l .loop .inv) (c .before .before .loop-test .taken) (c .select .ensures)
 
-returns : tie.Need-returns Inv-loop μ-loop
-returns c = lifting-end (search needs) (c .before .loop .inv) (omega arith)
-
 pub lift-spec : {M : Type 1} → statement M
 lift-spec =
-    tie.close
-    (tie.spec
-    Inv-loop
-    μ-loop
-    (λ c. lifting-start (c .pre))
-    (λ c. omega arith)
-    (λ c. omega (arith, c .before .loop .inv .sweep .sized))
-    (λ c κs. search needs)
-    (λ c. omega arith)
-    (λ c. omega (arith, c .before .before .before .loop .inv .sweep .sized))
-    (λ c. omega arith)
-    (λ c. omega arith)
-    loop-again
-    returns)
+    tie.close (tie.spec Inv-loop μ-loop (λ c. lifting-start (c .pre)) (λ c. omega arith) (λ c. omega (arith, c .before .loop .inv .sweep .sized))
+    (λ c κs. search needs) (λ c. omega arith) (λ c. omega (arith, c .before .before .before .loop .inv .sweep .sized)) (λ c. omega arith) (λ c. omega arith)
+    loop-again (λ c. lifting-end (search needs) (c .before .loop .inv) (omega arith)))

@@ -30,31 +30,9 @@ loop-again c =
 
 pub raise-spec : {M : Type 1} → statement M
 raise-spec =
-    tie.close
-    (tie.spec
-    Inv-loop
-    μ-loop
-    (λ c. raising-start (c .before .before .before .pre))
-    (λ c. omega arith)
-    (λ c. omega arith)
-    (λ c κs. omega arith)
-    (λ c. omega (arith, room c))
-    (λ c. omega arith)
-    (λ c. omega arith)
-    (λ c. omega arith)
-    (λ c. omega arith)
-    (λ c. omega (arith, room (c .before)))
-    (λ c. omega (arith, room (c .before)))
-    (λ c. omega (arith, room (c .before)))
-    (λ c. omega arith)
-    (λ c. omega arith)
-    (λ c. omega (arith, room (c .before .before .before)))
-    (λ c. omega (arith, room (c .before .before .before)))
-    (λ c κs. search needs)
-    (λ c. omega arith)
-    (λ c. omega arith)
-    (λ c. omega arith)
-    (λ c. omega arith)
-    loop-again
-    (λ c. search needs)
+    tie.close (tie.spec Inv-loop μ-loop (λ c. raising-start (c .before .before .before .pre)) (λ c. omega arith) (λ c. omega arith) (λ c κs. omega arith)
+    (λ c. omega (arith, room c)) (λ c. omega arith) (λ c. omega arith) (λ c. omega arith) (λ c. omega arith) (λ c. omega (arith, room (c .before)))
+    (λ c. omega (arith, room (c .before))) (λ c. omega (arith, room (c .before))) (λ c. omega arith) (λ c. omega arith)
+    (λ c. omega (arith, room (c .before .before .before))) (λ c. omega (arith, room (c .before .before .before))) (λ c κs. search needs) (λ c. omega arith)
+    (λ c. omega arith) (λ c. omega arith) (λ c. omega arith) loop-again (λ c. search needs)
     (λ c. raising-end (start (c .before) .pre) (c .before .loop .inv) (omega arith) (λ x h. omega (arith, c .before .before .before .shared-slice-known2 .given x))))

@@ -12,23 +12,11 @@ Inv-loop opens owner₀ free plan slot₀ fixed₀ after₀ i₀ owner slot fixe
 abbrev μ-loop : tie.MeasureT-loop
 μ-loop opens owner₀ free plan slot₀ fixed₀ after₀ i₀ owner slot fixed after i = i
 
-low-requires : tie.Need-low-requires Inv-loop μ-loop
-low-requires c κs = omega arith
-
-minus-requires : tie.Need-minus-requires Inv-loop μ-loop
-minus-requires c κs = search needs
-
 loop-holds : tie.Need-loop-holds Inv-loop μ-loop
 loop-holds c = advancing-start _ _ _ _ _ _ (search needs) (c .before .before .before .pre) (c .before .low .ensures) (c .minus .ensures)
 
-sub-i : tie.Need-sub-i Inv-loop μ-loop
-sub-i c = omega arith
-
 array-read-wide : tie.Need-array-read-wide Inv-loop μ-loop
 array-read-wide c = omega (arith, c .before .loop .inv .within, c .before .loop .inv .before .complete .table .few)
-
-wide-requires : tie.Need-wide-requires Inv-loop μ-loop
-wide-requires c κs = search needs
 
 without-requires : tie.Need-without-requires Inv-loop μ-loop
 without-requires c κs = advancing-slot _ _ _ _ _ _ _ _ _ _ _ (c .before .before .loop .inv) (omega arith) (c .wide .ensures) refl
@@ -58,9 +46,6 @@ mul-after c = omega (arith, c .before .before .before .before .before .before .b
 shared-slice-read-after : tie.Need-shared-slice-read-after Inv-loop μ-loop
 shared-slice-read-after c = omega (arith, c .before .before .before .before .before .before .before .before .before .loop .inv .within)
 
-loop-less : tie.Need-loop-less Inv-loop μ-loop
-loop-less c = omega arith
-
 loop-again : tie.Need-loop-again Inv-loop μ-loop
 loop-again c = advancing-stuck _ _ _ _ _ _ _ _ _ _ _ (c .before .before .before .before .before .before .before .before .before .loop .inv) (omega arith) (c .before .before .before .before .before .before .before .wide .ensures) (c .before .before .before .before .before .before .without .ensures) _ _ (c .before .before .before .advance-item .ensures .1 (c .before .if1 .left))
 
@@ -69,26 +54,6 @@ returns-2 c = rw (c .refused .ensures) (advancing-end _ _ _ _ _ _ _ _ (c .before
 
 pub advance-spec : {M : Type 1} → statement M
 advance-spec =
-    tie.close
-    (tie.spec
-    Inv-loop
-    μ-loop
-    low-requires
-    minus-requires
-    loop-holds
-    sub-i
-    array-read-wide
-    wide-requires
-    without-requires
-    advance-item-requires
-    add-settle
-    with-requires
-    settle-requires
-    (λ c κs. search needs)
-    returns
-    mul-after
-    shared-slice-read-after
-    loop-less
-    loop-again
-    (λ c κs. search needs)
-    returns-2)
+    tie.close (tie.spec Inv-loop μ-loop (λ c κs. omega arith) (λ c κs. search needs) loop-holds (λ c. omega arith) array-read-wide (λ c κs. search needs)
+    without-requires advance-item-requires add-settle with-requires settle-requires (λ c κs. search needs) returns mul-after shared-slice-read-after
+    (λ c. omega arith) loop-again (λ c κs. search needs) returns-2)

@@ -7,18 +7,6 @@ use borrow.Author.Needs.{needs}
 use Rattle.next.proofs.advance_item.Statement.{statement}
 use Rattle.next.proofs.advance_item.Tie as tie
 
-element-copy-out-wide : tie.Need-element-copy-out-wide
-element-copy-out-wide c = search needs
-
-wide-requires : tie.Need-wide-requires
-wide-requires c κs = search needs
-
-mul-word : tie.Need-mul-word
-mul-word c = search needs
-
-shared-slice-read-word : tie.Need-shared-slice-read-word
-shared-slice-read-word c = search needs
-
 can-leave-requires : tie.Need-can-leave-requires
 can-leave-requires c κs = advance-item-slot _ _ _ _ _ _ _ _ (c .before .before .before .before .pre) (c .before .wide .ensures)
 
@@ -30,12 +18,6 @@ add-low c = omega (arith, advance-item-slot _ _ _ _ _ _ _ _ (c .before .before .
 
 low-requires : tie.Need-low-requires
 low-requires c κs = omega (arith, advance-item-slot _ _ _ _ _ _ _ _ (c .before .before .before .before .before .before .pre) (c .before .before .before .wide .ensures))
-
-minus-requires : tie.Need-minus-requires
-minus-requires c κs = search needs
-
-minus-requires-2 : tie.Need-minus-requires-2
-minus-requires-2 c κs = search needs
 
 returns-2 : tie.Need-returns-2
 returns-2 c = (
@@ -75,20 +57,5 @@ returns-4 c =
 
 pub advance-item-spec : {M : Type 1} → statement M
 advance-item-spec =
-    tie.close
-    (tie.spec
-    element-copy-out-wide
-    wide-requires
-    mul-word
-    shared-slice-read-word
-    can-leave-requires
-    returns
-    add-low
-    low-requires
-    minus-requires
-    minus-requires-2
-    returns-2
-    shift-requires
-    returns-3
-    lower-requires
-    returns-4)
+    tie.close (tie.spec (λ c. search needs) (λ c κs. search needs) (λ c. search needs) (λ c. search needs) can-leave-requires returns add-low low-requires
+    (λ c κs. search needs) (λ c κs. search needs) returns-2 shift-requires returns-3 lower-requires returns-4)

@@ -28,10 +28,5 @@ returns-2 c =
 
 pub next-plan-spec : {M : Type 1} → statement M
 next-plan-spec =
-    tie.close
-    (tie.spec
-    (λ c κs. search needs)
-    (λ c κs. search needs)
-    returns
-    (λ c κs. c .before .before .before .adopt .ensures .0 (not-false _ (c .before .if1 .left)))
-    returns-2)
+    tie.close (tie.spec (λ c κs. search needs) (λ c κs. search needs) returns
+    (λ c κs. c .before .before .before .adopt .ensures .0 (not-false _ (c .before .if1 .left))) returns-2)

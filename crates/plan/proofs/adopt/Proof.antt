@@ -12,14 +12,8 @@ use Rattle.plan.proofs.adopt.Tie as tie
 range : (c : tie.After-shared-slice-known) → (x : ℕ) → x < length (c .before .args .opens .now) → getD (c .before .args .opens .now) x 0 < 2 ^ 64
 range c x h = omega (arith, c .shared-slice-known .given x)
 
-zeros-from-requires : tie.Need-zeros-from-requires
-zeros-from-requires c κs = search needs
-
 returns : tie.Need-returns
 returns c = (λ e. absurd (false≢true e), λ e P. c .before .zeros-from .ensures .1 (not-true _ (c .if1 .taken)) (P .zeros))
-
-adopt-items-requires : tie.Need-adopt-items-requires
-adopt-items-requires c κs = search needs
 
 returns-2 : tie.Need-returns-2
 returns-2 c = (
@@ -28,10 +22,4 @@ returns-2 c = (
 )
 
 pub adopt-spec : {M : Type 1} → statement M
-adopt-spec =
-    tie.close
-    (tie.spec
-    zeros-from-requires
-    returns
-    adopt-items-requires
-    returns-2)
+adopt-spec = tie.close (tie.spec (λ c κs. search needs) returns (λ c κs. search needs) returns-2)

@@ -21,32 +21,11 @@ abbrev μ-loop : tie.MeasureT-loop
 range : (c : tie.After-shared-slice-known Inv-loop μ-loop) → (x : ℕ) → getD (c .before .args .opens .now) x 0 < 2 ^ 64
 range c x = omega (arith, c .shared-slice-known .given x)
 
-low-requires : tie.Need-low-requires Inv-loop μ-loop
-low-requires c κs = omega arith
-
-loop-holds : tie.Need-loop-holds Inv-loop μ-loop
-loop-holds c = (omega arith, adopted-start _ _ _ _ (c .before .before .pre .1) (c .low .ensures))
-
-array-read-wide : tie.Need-array-read-wide Inv-loop μ-loop
-array-read-wide c = omega arith
-
-wide-requires : tie.Need-wide-requires Inv-loop μ-loop
-wide-requires c κs = search needs
-
 returns : tie.Need-returns Inv-loop μ-loop
 returns c = (
   λ e. absurd (false≢true e),
   λ e P. omega (arith, c .if1 .taken, adopted-slot _ _ _ _ _ _ (c .before .before .before .loop .inv .1) (c .before .wide .ensures) (c .before .before .loop-test .taken) P (range (c .before .before .before .before .before) _)),
 )
-
-mul-has : tie.Need-mul-has Inv-loop μ-loop
-mul-has c = omega arith
-
-shared-slice-read-has : tie.Need-shared-slice-read-has Inv-loop μ-loop
-shared-slice-read-has c = omega arith
-
-has-requires : tie.Need-has-requires Inv-loop μ-loop
-has-requires c κs = omega arith
 
 returns-2 : tie.Need-returns-2 Inv-loop μ-loop
 returns-2 c = (
@@ -59,9 +38,6 @@ returns-2 c = (
       ),
 )
 
-has-requires-2 : tie.Need-has-requires-2 Inv-loop μ-loop
-has-requires-2 c κs = omega arith
-
 returns-3 : tie.Need-returns-3 Inv-loop μ-loop
 returns-3 c = (
   λ e. absurd (false≢true e),
@@ -69,21 +45,6 @@ returns-3 c = (
       adopted-free _ _ _ _ _ _ (c .before .before .before .before .before .before .before .before .loop .inv .1) (c .before .before .before .before .before .before .wide .ensures) (c .before .before .before .before .before .before .before .loop-test .taken) P (range (c .before .before .before .before .before .before .before .before .before .before) _) (omega arith)
       (bit-none _ _ (sym (c .before .has2 .ensures) ∙ not-true _ (c .if3 .taken))),
 )
-
-cast-owner : tie.Need-cast-owner Inv-loop μ-loop
-cast-owner c = omega arith
-
-element-write-owner : tie.Need-element-write-owner Inv-loop μ-loop
-element-write-owner c = omega arith
-
-without-requires : tie.Need-without-requires Inv-loop μ-loop
-without-requires c κs = omega arith
-
-add-i : tie.Need-add-i Inv-loop μ-loop
-add-i c = omega arith
-
-loop-less : tie.Need-loop-less Inv-loop μ-loop
-loop-less c = omega arith
 
 loop-again : tie.Need-loop-again Inv-loop μ-loop
 loop-again c = (
@@ -102,25 +63,6 @@ returns-4 c =
 
 pub adopt-items-spec : {M : Type 1} → statement M
 adopt-items-spec =
-    tie.close
-    (tie.spec
-    Inv-loop
-    μ-loop
-    low-requires
-    loop-holds
-    array-read-wide
-    wide-requires
-    returns
-    mul-has
-    shared-slice-read-has
-    has-requires
-    returns-2
-    has-requires-2
-    returns-3
-    cast-owner
-    element-write-owner
-    without-requires
-    add-i
-    loop-less
-    loop-again
-    returns-4)
+    tie.close (tie.spec Inv-loop μ-loop (λ c κs. omega arith) (λ c. (omega arith, adopted-start _ _ _ _ (c .before .before .pre .1) (c .low .ensures)))
+    (λ c. omega arith) (λ c κs. search needs) returns (λ c. omega arith) (λ c. omega arith) (λ c κs. omega arith) returns-2 (λ c κs. omega arith) returns-3
+    (λ c. omega arith) (λ c. omega arith) (λ c κs. omega arith) (λ c. omega arith) (λ c. omega arith) loop-again returns-4)

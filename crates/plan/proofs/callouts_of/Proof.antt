@@ -12,32 +12,11 @@ Inv-loop callouts plan number₀ i₀ number i = (i ≤ length callouts) × (len
 abbrev μ-loop : tie.MeasureT-loop
 μ-loop callouts plan number₀ i₀ number i = length callouts - i
 
-loop-holds : tie.Need-loop-holds Inv-loop μ-loop
-loop-holds c = (omega arith, c .before .pre, none (c .before .args .callouts .now) (c .before .args .t2))
-
-mul-callout : tie.Need-mul-callout Inv-loop μ-loop
-mul-callout c = omega arith
-
-shared-slice-read-callout : tie.Need-shared-slice-read-callout Inv-loop μ-loop
-shared-slice-read-callout c = omega arith
-
-array-read-callout : tie.Need-array-read-callout Inv-loop μ-loop
-array-read-callout c = omega arith
-
-callout-requires : tie.Need-callout-requires Inv-loop μ-loop
-callout-requires c κs = tt
-
 add-number : tie.Need-add-number Inv-loop μ-loop
 add-number c =
     let head = c .before .before .before in
     let args = head .before .before .args in
     omega (arith, small (args .callouts .now) (args .t2) (head .loop .i) _ (c .callout .ensures))
-
-add-i : tie.Need-add-i Inv-loop μ-loop
-add-i c = omega arith
-
-loop-less : tie.Need-loop-less Inv-loop μ-loop
-loop-less c = omega arith
 
 loop-again : tie.Need-loop-again Inv-loop μ-loop
 loop-again c =
@@ -45,22 +24,8 @@ loop-again c =
     let args = head .before .before .args in
     (omega arith, omega arith, one-more (args .callouts .now) (args .t2) (head .loop .i) (head .loop .number) _ (head .loop .inv .2) (c .callout .ensures))
 
-returns : tie.Need-returns Inv-loop μ-loop
-returns c = all _ _ (c .before .loop .i) _ (omega arith) (c .before .loop .inv .2)
-
 pub callouts-of-spec : {M : Type 1} → statement M
 callouts-of-spec =
-    tie.close
-    (tie.spec
-    Inv-loop
-    μ-loop
-    loop-holds
-    mul-callout
-    shared-slice-read-callout
-    array-read-callout
-    callout-requires
-    add-number
-    add-i
-    loop-less
-    loop-again
-    returns)
+    tie.close (tie.spec Inv-loop μ-loop (λ c. (omega arith, c .before .pre, none (c .before .args .callouts .now) (c .before .args .t2))) (λ c. omega arith)
+    (λ c. omega arith) (λ c. omega arith) (λ c κs. tt) add-number (λ c. omega arith) (λ c. omega arith) loop-again
+    (λ c. all _ _ (c .before .loop .i) _ (omega arith) (c .before .loop .inv .2)))

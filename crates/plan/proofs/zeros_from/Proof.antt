@@ -14,20 +14,8 @@ Inv-loop n plan i₀ i = (n ≤ i) × ((k : ℕ) → n ≤ k → k < i → getD 
 abbrev μ-loop : tie.MeasureT-loop
 μ-loop n plan i₀ i = 64 - i
 
-loop-holds : tie.Need-loop-holds Inv-loop μ-loop
-loop-holds c = (omega arith, λ k h l. absurd (omega arith))
-
-array-read-if1 : tie.Need-array-read-if1 Inv-loop μ-loop
-array-read-if1 c = omega arith
-
 returns : tie.Need-returns Inv-loop μ-loop
 returns c = (λ e. absurd (false≢true e), λ e Z. c .if1 .taken (Z (c .before .before .loop .i) (omega arith) (omega arith)))
-
-add-i : tie.Need-add-i Inv-loop μ-loop
-add-i c = omega arith
-
-loop-less : tie.Need-loop-less Inv-loop μ-loop
-loop-less c = omega arith
 
 loop-again : tie.Need-loop-again Inv-loop μ-loop
 loop-again c =
@@ -36,19 +24,7 @@ loop-again c =
       λ k h g. same-or k (l .loop .i) (λ e. ap (λ j. getD (l .before .args .t1) j 0) e ∙ c .if1 .left) (λ d. l .loop .inv .1 k h (omega arith)),
     )
 
-returns-2 : tie.Need-returns-2 Inv-loop μ-loop
-returns-2 c = (λ e k h g. c .before .loop .inv .1 k h (omega arith), λ e. absurd (false≢true (sym e)))
-
 pub zeros-from-spec : {M : Type 1} → statement M
 zeros-from-spec =
-    tie.close
-    (tie.spec
-    Inv-loop
-    μ-loop
-    loop-holds
-    array-read-if1
-    returns
-    add-i
-    loop-less
-    loop-again
-    returns-2)
+    tie.close (tie.spec Inv-loop μ-loop (λ c. (omega arith, λ k h l. absurd (omega arith))) (λ c. omega arith) returns (λ c. omega arith) (λ c. omega arith)
+    loop-again (λ c. (λ e k h g. c .before .loop .inv .1 k h (omega arith), λ e. absurd (false≢true (sym e)))))

@@ -53,20 +53,7 @@ returns-3 c =
 
 pub rota-in-spec : {M : Type 1} → statement M
 rota-in-spec =
-    tie.close
-    (tie.spec
-    (λ c κs. search needs)
-    (λ c κs. search needs)
-    returns
-    shared-slice-read-wide
-    (λ c κs. search needs)
-    (λ c κs. (omega arith, room c .few, room c .enough))
-    (λ c κs. (omega arith, room (c .before) .few, room (c .before) .enough))
-    (λ c. opens-enough (c .before))
-    (λ c. sym (length-take-le _ _ (opens-enough (c .before .before))))
-    (λ c. callouts-enough (c .before))
-    (λ c. sym (length-take-le _ _ (callouts-enough (c .before .before))))
-    cell-code-requires
-    (λ c κs. search needs)
-    returns-2
-    returns-3)
+    tie.close (tie.spec (λ c κs. search needs) (λ c κs. search needs) returns shared-slice-read-wide (λ c κs. search needs)
+    (λ c κs. (omega arith, room c .few, room c .enough)) (λ c κs. (omega arith, room (c .before) .few, room (c .before) .enough))
+    (λ c. opens-enough (c .before)) (λ c. sym (length-take-le _ _ (opens-enough (c .before .before)))) (λ c. callouts-enough (c .before))
+    (λ c. sym (length-take-le _ _ (callouts-enough (c .before .before)))) cell-code-requires (λ c κs. search needs) returns-2 returns-3)

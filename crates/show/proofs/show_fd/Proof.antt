@@ -38,20 +38,6 @@ list-requires c κs =
 
 pub show-fd-spec : {M : Type 1} → statement M
 show-fd-spec =
-    tie.close
-    (tie.spec
-    (λ c. search needs)
-    (λ c κs. search needs)
-    (λ c. search needs)
-    (λ c. search needs)
-    (λ c. search needs)
-    (λ c. search needs)
-    (λ c κs. search needs)
-    (λ c κs. search needs)
-    (λ c. search needs)
-    array-share-prefix-opens
-    slice-aggregate-list
-    array-share-prefix-callouts
-    slice-aggregate-list-2
-    list-requires
-    (λ c. search needs))
+    tie.close (tie.spec (λ c. search needs) (λ c κs. search needs) (λ c. search needs) (λ c. search needs) (λ c. search needs) (λ c. search needs)
+    (λ c κs. search needs) (λ c κs. search needs) (λ c. search needs) array-share-prefix-opens slice-aggregate-list array-share-prefix-callouts
+    slice-aggregate-list-2 list-requires (λ c. search needs))

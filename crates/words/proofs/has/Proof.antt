@@ -5,12 +5,9 @@ use Rattle.words.specs.Word.{has}
 use Rattle.words.proofs.has.Statement.{statement}
 use Rattle.words.proofs.has.Tie as tie
 
-shr-result : tie.Need-shr-result
-shr-result c = search needs
-
 returns : tie.Need-returns
 unfolding has
 returns c = refl
 
 pub has-spec : {M : Type 1} → statement M
-has-spec = tie.close (tie.spec shr-result returns)
+has-spec = tie.close (tie.spec (λ c. search needs) returns)

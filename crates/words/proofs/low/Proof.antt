@@ -12,15 +12,10 @@ returns : tie.Need-returns
 unfolding low
 returns c = let full : 64 ≡ c .before .args .n = omega arith in ap low full
 
-shl-result : tie.Need-shl-result
-shl-result c = search needs
-
-sub-result : tie.Need-sub-result
-sub-result c = rw (shl-one 64 (c .before .args .n) (omega arith)) (pow-pos (c .before .args .n))
-
 returns-2 : tie.Need-returns-2
 unfolding low
 returns-2 c = rw (shl-one 64 (c .before .args .n) (omega arith))
 
 pub low-spec : {M : Type 1} → statement M
-low-spec = tie.close (tie.spec returns shl-result sub-result returns-2)
+low-spec =
+    tie.close (tie.spec returns (λ c. search needs) (λ c. rw (shl-one 64 (c .before .args .n) (omega arith)) (pow-pos (c .before .args .n))) returns-2)

@@ -6,12 +6,9 @@ use Rattle.words.specs.Word.{lowest}
 use Rattle.words.proofs.lowest.Statement.{statement}
 use Rattle.words.proofs.lowest.Tie as tie
 
-cast-result : tie.Need-cast-result
-cast-result c = record { fits = omega (arith, trailing-le 64 (c .args .w)) }
-
 returns : tie.Need-returns
 unfolding lowest
 returns c = refl
 
 pub lowest-spec : {M : Type 1} → statement M
-lowest-spec = tie.close (tie.spec cast-result returns)
+lowest-spec = tie.close (tie.spec (λ c. record { fits = omega (arith, trailing-le 64 (c .args .w)) }) returns)

@@ -5,11 +5,5 @@ use lib.Count.{ones-le}
 use Rattle.words.proofs.size.Statement.{statement}
 use Rattle.words.proofs.size.Tie as tie
 
-cast-result : tie.Need-cast-result
-cast-result c = record { fits = omega (arith, ones-le 64 (c .args .w) (search needs)) }
-
-returns : tie.Need-returns
-returns c = search needs
-
 pub size-spec : {M : Type 1} → statement M
-size-spec = tie.close (tie.spec cast-result returns)
+size-spec = tie.close (tie.spec (λ c. record { fits = omega (arith, ones-le 64 (c .args .w) (search needs)) }) (λ c. search needs))

@@ -4,11 +4,8 @@ use Rattle.words.proofs.Bits.{shl-one, or-single}
 use Rattle.words.proofs.with.Statement.{statement}
 use Rattle.words.proofs.with.Tie as tie
 
-shl-result : tie.Need-shl-result
-shl-result c = search needs
-
 returns : tie.Need-returns
 returns c = rw (shl-one 64 (c .args .j) (search needs)) (or-single 64 (c .args .w) (c .args .j) (search needs) (search needs))
 
 pub with-spec : {M : Type 1} → statement M
-with-spec = tie.close (tie.spec shl-result returns)
+with-spec = tie.close (tie.spec (λ c. search needs) returns)

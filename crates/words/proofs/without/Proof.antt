@@ -4,11 +4,8 @@ use Rattle.words.proofs.Bits.{shl-one, and-not-single}
 use Rattle.words.proofs.without.Statement.{statement}
 use Rattle.words.proofs.without.Tie as tie
 
-shl-result : tie.Need-shl-result
-shl-result c = search needs
-
 returns : tie.Need-returns
 returns c = rw (shl-one 64 (c .args .j) (search needs)) (and-not-single 64 (c .args .w) (c .args .j) (search needs) (search needs))
 
 pub without-spec : {M : Type 1} → statement M
-without-spec = tie.close (tie.spec shl-result returns)
+without-spec = tie.close (tie.spec (λ c. search needs) returns)

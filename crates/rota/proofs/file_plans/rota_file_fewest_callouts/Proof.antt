@@ -28,15 +28,8 @@ returns-2 c =
 
 pub rota-file-fewest-callouts-spec : {M : Type 1} → statement M
 rota-file-fewest-callouts-spec =
-    tie.close
-    (tie.spec
-    (λ c κs. search needs)
-    returns
-    (λ c. open-at (c .before .before) .opens-enough)
-    (λ c. sym (length-take-le _ _ (open-at (c .before .before .before) .opens-enough)))
-    (λ c. open-at (c .before .before .before) .callouts-enough)
+    tie.close (tie.spec (λ c κs. search needs) returns (λ c. open-at (c .before .before) .opens-enough)
+    (λ c. sym (length-take-le _ _ (open-at (c .before .before .before) .opens-enough))) (λ c. open-at (c .before .before .before) .callouts-enough)
     (λ c. sym (length-take-le _ _ (open-at (c .before .before .before .before) .callouts-enough)))
     (λ c κs. open-at (c .before .before .before .before) .square)
-    (λ c κs. open-at (c .before .before .before .before .before .before .before .before) .room)
-    (λ c. search needs)
-    returns-2)
+    (λ c κs. open-at (c .before .before .before .before .before .before .before .before) .room) (λ c. search needs) returns-2)

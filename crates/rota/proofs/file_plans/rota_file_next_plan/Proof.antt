@@ -33,14 +33,6 @@ returns-2 c =
 
 pub rota-file-next-plan-spec : {M : Type 1} → statement M
 rota-file-next-plan-spec =
-    tie.close
-    (tie.spec
-    (λ c κs. search needs)
-    returns
-    (λ c κs. open-at (c .before .before) .room)
-    (λ c. open-at (c .before .before .before) .opens-enough)
-    (λ c. sym (length-take-le _ _ (open-at (c .before .before .before .before) .opens-enough)))
-    (λ c κs. open-at (c .before .before .before .before) .few)
-    (λ c κs. open-at (c .before .before .before .before .before .before .before .before) .room)
-    (λ c. search needs)
-    returns-2)
+    tie.close (tie.spec (λ c κs. search needs) returns (λ c κs. open-at (c .before .before) .room) (λ c. open-at (c .before .before .before) .opens-enough)
+    (λ c. sym (length-take-le _ _ (open-at (c .before .before .before .before) .opens-enough))) (λ c κs. open-at (c .before .before .before .before) .few)
+    (λ c κs. open-at (c .before .before .before .before .before .before .before .before) .room) (λ c. search needs) returns-2)

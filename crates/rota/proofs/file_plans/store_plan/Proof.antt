@@ -17,13 +17,5 @@ returns-2 c =
 
 pub store-plan-spec : {M : Type 1} → statement M
 store-plan-spec =
-    tie.close
-    (tie.spec
-    (λ c. (refl, nothing-written _ _ (c .if1 .taken) refl _ _))
-    (λ c. search needs)
-    (λ c. search needs)
-    (λ c. search needs)
-    (λ c. search needs)
-    (λ c κs. search needs)
-    (λ c. search needs)
-    returns-2)
+    tie.close (tie.spec (λ c. (refl, nothing-written _ _ (c .if1 .taken) refl _ _)) (λ c. search needs) (λ c. search needs) (λ c. search needs)
+    (λ c. search needs) (λ c κs. search needs) (λ c. search needs) returns-2)

@@ -64,18 +64,8 @@ returns-4 c =
 
 pub rota-read-file-spec : {M : Type 1} → statement M
 rota-read-file-spec =
-    tie.close
-    (tie.spec
-    (λ c κs. search needs)
-    returns
-    returns-2
-    returns-3
-    (λ c. opens-enough (c .before .before .before .before))
-    (λ c. sym (length-take-le _ _ (opens-enough (c .before .before .before .before .before))))
-    store-requires
+    tie.close (tie.spec (λ c κs. search needs) returns returns-2 returns-3 (λ c. opens-enough (c .before .before .before .before))
+    (λ c. sym (length-take-le _ _ (opens-enough (c .before .before .before .before .before)))) store-requires
     (λ c. callouts-enough (c .before .before .before .before .before .before .before .before .before))
-    (λ c. sym (length-take-le _ _ (callouts-enough (c .before .before .before .before .before .before .before .before .before .before))))
-    store-requires-2
-    (λ c. search needs)
-    (λ c. search needs)
-    returns-4)
+    (λ c. sym (length-take-le _ _ (callouts-enough (c .before .before .before .before .before .before .before .before .before .before)))) store-requires-2
+    (λ c. search needs) (λ c. search needs) returns-4)

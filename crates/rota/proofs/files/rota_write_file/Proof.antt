@@ -35,16 +35,5 @@ returns-3 c =
 
 pub rota-write-file-spec : {M : Type 1} → statement M
 rota-write-file-spec =
-    tie.close
-    (tie.spec
-    (λ c κs. search needs)
-    returns
-    (λ c κs. few-slots _ _ _ _ (c .before .table-code .ensures) (c .if1 .left))
-    (λ c. search needs)
-    returns-2
-    (λ c. search needs)
-    (λ c. search needs)
-    (λ c. search needs)
-    write-blocks-requires
-    (λ c. search needs)
-    returns-3)
+    tie.close (tie.spec (λ c κs. search needs) returns (λ c κs. few-slots _ _ _ _ (c .before .table-code .ensures) (c .if1 .left)) (λ c. search needs)
+    returns-2 (λ c. search needs) (λ c. search needs) (λ c. search needs) write-blocks-requires (λ c. search needs) returns-3)

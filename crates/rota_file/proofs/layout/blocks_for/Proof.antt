@@ -5,12 +5,9 @@ use Rattle.model.specs.File.{blocksFor}
 use Rattle.rota_file.proofs.layout.blocks_for.Statement.{statement}
 use Rattle.rota_file.proofs.layout.blocks_for.Tie as tie
 
-add-result : tie.Need-add-result
-add-result c = search needs
-
 returns : tie.Need-returns
 unfolding blocksFor
 returns c = omega arith
 
 pub blocks-for-spec : {M : Type 1} → statement M
-blocks-for-spec = tie.close (tie.spec add-result returns)
+blocks-for-spec = tie.close (tie.spec (λ c. search needs) returns)

@@ -14,25 +14,10 @@ Inv-loop bytes sum₀ i₀ sum i = (i ≤ length bytes) × (sum ≤ 255 * i) × 
 abbrev μ-loop : tie.MeasureT-loop
 μ-loop bytes sum₀ i₀ sum i = length bytes - i
 
-loop-holds : tie.Need-loop-holds Inv-loop μ-loop
-loop-holds c = (omega arith, omega arith, omega arith)
-
-shared-slice-read-wide : tie.Need-shared-slice-read-wide Inv-loop μ-loop
-shared-slice-read-wide c = omega arith
-
-wide-requires : tie.Need-wide-requires Inv-loop μ-loop
-wide-requires c κs = omega arith
-
 add-sum : tie.Need-add-sum Inv-loop μ-loop
 add-sum c =
     let head = c .before .before .before in
     omega (arith, c .before .shared-slice-known2 .given (head .loop .i) .fits)
-
-add-i : tie.Need-add-i Inv-loop μ-loop
-add-i c = omega arith
-
-loop-less : tie.Need-loop-less Inv-loop μ-loop
-loop-less c = omega arith
 
 loop-again : tie.Need-loop-again Inv-loop μ-loop
 loop-again c =
@@ -41,20 +26,7 @@ loop-again c =
     let small = c .before .shared-slice-known2 .given i .fits in
     rw (c .wide .ensures) (omega arith, omega arith, sum-more _ _ i (head .loop .inv .2) (omega arith))
 
-returns : tie.Need-returns Inv-loop μ-loop
-returns c = sum-done _ _ (c .before .loop .i) (c .before .loop .inv .2) (omega arith)
-
 pub check-of-spec : {M : Type 1} → statement M
 check-of-spec =
-    tie.close
-    (tie.spec
-    Inv-loop
-    μ-loop
-    loop-holds
-    shared-slice-read-wide
-    wide-requires
-    add-sum
-    add-i
-    loop-less
-    loop-again
-    returns)
+    tie.close (tie.spec Inv-loop μ-loop (λ c. (omega arith, omega arith, omega arith)) (λ c. omega arith) (λ c κs. omega arith) add-sum (λ c. omega arith)
+    (λ c. omega arith) loop-again (λ c. sum-done _ _ (c .before .loop .i) (c .before .loop .inv .2) (omega arith)))

@@ -19,28 +19,16 @@ loop-holds : tie.Need-loop-holds Inv-loop μ-loop
 unfolding fromBytes
 loop-holds c = (omega arith, sym (ap fromBytes (drop-length (c .before .args .bytes .now))))
 
-sub-i : tie.Need-sub-i Inv-loop μ-loop
-sub-i c = omega arith
-
 mul-x : tie.Need-mul-x Inv-loop μ-loop
 mul-x c =
     let head = c .before in
     omega (arith, from-small (head .before .before .args .bytes .now) (head .loop .i) (c .loop-test .taken) (head .before .before .pre) (λ j. head .before .shared-slice-known .given j .fits))
-
-shared-slice-read-wide : tie.Need-shared-slice-read-wide Inv-loop μ-loop
-shared-slice-read-wide c = omega arith
-
-wide-requires : tie.Need-wide-requires Inv-loop μ-loop
-wide-requires c κs = omega arith
 
 add-x : tie.Need-add-x Inv-loop μ-loop
 add-x c =
     let head = c .before .before .before in
     let i = head .loop .i in
     omega (arith, from-small (head .before .before .args .bytes .now) i (c .before .before .loop-test .taken) (head .before .before .pre) (λ j. head .before .shared-slice-known .given j .fits), c .before .shared-slice-known2 .given (i - 1) .fits)
-
-loop-less : tie.Need-loop-less Inv-loop μ-loop
-loop-less c = omega arith
 
 loop-again : tie.Need-loop-again Inv-loop μ-loop
 loop-again c =
@@ -55,16 +43,5 @@ returns c =
 
 pub from-bytes-spec : {M : Type 1} → statement M
 from-bytes-spec =
-    tie.close
-    (tie.spec
-    Inv-loop
-    μ-loop
-    loop-holds
-    sub-i
-    mul-x
-    shared-slice-read-wide
-    wide-requires
-    add-x
-    loop-less
-    loop-again
+    tie.close (tie.spec Inv-loop μ-loop loop-holds (λ c. omega arith) mul-x (λ c. omega arith) (λ c κs. omega arith) add-x (λ c. omega arith) loop-again
     returns)

@@ -13,18 +13,6 @@ Inv-loop file k wrong₀ laid₀ b₀ wrong laid b = Checking file wrong laid b
 abbrev μ-loop : tie.MeasureT-loop
 μ-loop file k wrong₀ laid₀ b₀ wrong laid b = k - b
 
-loop-holds : tie.Need-loop-holds Inv-loop μ-loop
-loop-holds c = record { within = omega arith; wrongs = refl; laids = refl }
-
-check-block-requires : tie.Need-check-block-requires Inv-loop μ-loop
-check-block-requires c κs = search needs
-
-add-b : tie.Need-add-b Inv-loop μ-loop
-add-b c = omega arith
-
-loop-less : tie.Need-loop-less Inv-loop μ-loop
-loop-less c = omega arith
-
 loop-again : tie.Need-loop-again Inv-loop μ-loop
 loop-again c =
     let head = c .before .before .before .before in
@@ -37,5 +25,5 @@ returns c =
 
 pub check-blocks-spec : {M : Type 1} → statement M
 check-blocks-spec =
-    tie.close
-    (tie.spec Inv-loop μ-loop loop-holds check-block-requires add-b loop-less loop-again returns)
+    tie.close (tie.spec Inv-loop μ-loop (λ c. record { within = omega arith; wrongs = refl; laids = refl }) (λ c κs. search needs) (λ c. omega arith)
+    (λ c. omega arith) loop-again returns)

@@ -18,9 +18,6 @@ counted s =
     let right = sized .before .before in
     record { tested = tested (right .before); right = right .if4 .left; items = sized .wide .ensures; first = s .before .if5 .left; last = s .if6 .left }
 
-mul-if1 : tie.Need-mul-if1
-mul-if1 c = search needs
-
 returns : tie.Need-returns
 returns c = says-12 (c .before .before .args .file .now) (λ e. omega arith) (λ e. omega arith) (λ e. omega arith)
 
@@ -30,18 +27,6 @@ returns-2 c = says-12 (c .before .before .before .args .file .now) (λ e. omega 
 returns-3 : tie.Need-returns-3
 returns-3 c = says-12 (c .before .before .before .before .args .file .now) (λ e. omega arith) (λ e. omega arith) (λ e. omega arith)
 
-check-blocks-requires : tie.Need-check-blocks-requires
-check-blocks-requires c κs = search needs
-
-returns-4 : tie.Need-returns-4
-returns-4 c = says-13 _ _ (tested (c .before)) (c .if4 .taken)
-
-shared-slice-read-wide : tie.Need-shared-slice-read-wide
-shared-slice-read-wide c = search needs
-
-wide-requires : tie.Need-wide-requires
-wide-requires c κs = search needs
-
 returns-5 : tie.Need-returns-5
 unfolding itemsIn
 returns-5 c = no-items _ _ (tested (c .before .before .before .before)) (c .before .before .before .if4 .left) _ (c .before .wide .ensures) (c .if5 .taken)
@@ -49,9 +34,6 @@ returns-5 c = no-items _ _ (tested (c .before .before .before .before)) (c .befo
 returns-6 : tie.Need-returns-6
 unfolding itemsIn
 returns-6 c = many-items _ _ (tested (c .before .before .before .before .before)) (c .before .before .before .before .if4 .left) _ (c .before .before .wide .ensures) (c .if6 .taken)
-
-blocks-for-requires : tie.Need-blocks-for-requires
-blocks-for-requires c κs = search needs
 
 returns-7 : tie.Need-returns-7
 returns-7 c = other-blocks _ _ _ (counted (c .before .before)) (λ e. c .if7 .taken (e ∙ sym (c .before .blocks-for .ensures .0)))
@@ -68,19 +50,5 @@ returns-9 c =
 
 pub layout-code-spec : {M : Type 1} → statement M
 layout-code-spec =
-    tie.close
-    (tie.spec
-    mul-if1
-    returns
-    returns-2
-    returns-3
-    check-blocks-requires
-    returns-4
-    shared-slice-read-wide
-    wide-requires
-    returns-5
-    returns-6
-    blocks-for-requires
-    returns-7
-    returns-8
-    returns-9)
+    tie.close (tie.spec (λ c. search needs) returns returns-2 returns-3 (λ c κs. search needs) (λ c. says-13 _ _ (tested (c .before)) (c .if4 .taken))
+    (λ c. search needs) (λ c κs. search needs) returns-5 returns-6 (λ c κs. search needs) returns-7 returns-8 returns-9)

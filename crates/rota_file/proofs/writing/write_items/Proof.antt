@@ -15,54 +15,12 @@ Inv-loop opens callouts out₀ i₀ out i = (i ≤ length opens) × (length out 
 abbrev μ-loop : tie.MeasureT-loop
 μ-loop opens callouts out₀ i₀ out i = length opens - i
 
-loop-holds : tie.Need-loop-holds Inv-loop μ-loop
-loop-holds c = (omega arith, refl, refl)
-
-mul-at : tie.Need-mul-at Inv-loop μ-loop
-mul-at c = omega arith
-
-mul-w : tie.Need-mul-w Inv-loop μ-loop
-mul-w c = omega (arith, c .before .before .before .before .before .good)
-
-shared-slice-read-w : tie.Need-shared-slice-read-w Inv-loop μ-loop
-shared-slice-read-w c = omega arith
-
-mul-c : tie.Need-mul-c Inv-loop μ-loop
-mul-c c = omega (arith, c .before .before .before .before .before .before .good)
-
-shared-slice-read-c : tie.Need-shared-slice-read-c Inv-loop μ-loop
-shared-slice-read-c c = omega arith
-
-add-write-item : tie.Need-add-write-item Inv-loop μ-loop
-add-write-item c = omega arith
-
-sub-write-item : tie.Need-sub-write-item Inv-loop μ-loop
-sub-write-item c = omega arith
-
-part-write-item-start : tie.Need-part-write-item-start Inv-loop μ-loop
-part-write-item-start c = omega arith
-
-part-write-item-end : tie.Need-part-write-item-end Inv-loop μ-loop
-part-write-item-end c = omega arith
-
-write-item-requires : tie.Need-write-item-requires Inv-loop μ-loop
-write-item-requires c κs = simp (length-take, length-drop) (omega arith)
-
-add-i : tie.Need-add-i Inv-loop μ-loop
-add-i c = omega arith
-
-loop-less : tie.Need-loop-less Inv-loop μ-loop
-loop-less c = omega arith
-
 loop-again : tie.Need-loop-again Inv-loop μ-loop
 loop-again c =
     let head = c .before .before .before .before .before .before .before in
     let start = head .before .before .before .before in
     let r = items-more (start .args .opens .now) (start .args .callouts .now) (head .loop .out) _ (head .loop .i) (start .pre .0) (omega arith) (omega arith) (head .loop .inv .2) (c .before .before .write-item .ensures) in
     (omega arith, r .0 ∙ head .loop .inv .1, r .1)
-
-same-length : tie.Need-same-length Inv-loop μ-loop
-same-length c = omega arith
 
 returns : tie.Need-returns Inv-loop μ-loop
 returns c =
@@ -71,23 +29,8 @@ returns c =
 
 pub write-items-spec : {M : Type 1} → statement M
 write-items-spec =
-    tie.close
-    (tie.spec
-    Inv-loop
-    μ-loop
-    loop-holds
-    mul-at
-    mul-w
-    shared-slice-read-w
-    mul-c
-    shared-slice-read-c
-    add-write-item
-    sub-write-item
-    part-write-item-start
-    part-write-item-end
-    write-item-requires
-    add-i
-    loop-less
-    loop-again
-    same-length
-    returns)
+    tie.close (tie.spec Inv-loop μ-loop (λ c. (omega arith, refl, refl)) (λ c. omega arith)
+    (λ c. omega (arith, c .before .before .before .before .before .good)) (λ c. omega arith)
+    (λ c. omega (arith, c .before .before .before .before .before .before .good)) (λ c. omega arith) (λ c. omega arith) (λ c. omega arith)
+    (λ c. omega arith) (λ c. omega arith) (λ c κs. simp (length-take, length-drop) (omega arith)) (λ c. omega arith) (λ c. omega arith) loop-again
+    (λ c. omega arith) returns)
