@@ -43,9 +43,10 @@ pub fn cell_code(m: usize, opens: &[u64], callouts: &[u64]) -> u32
     first_code(beyond, closed)
 }
 
-// 1, 2, 3, 4 or 0 of a rota of n items and n slots.
-pub fn table_code(n: usize, opens: &[u64], callouts: &[u64]) -> u32
-    ensures { λ r. ⌜ r ≡ tableCode n n (now (opens .entry)) (now (callouts .entry)) ⌝ }
+// 1, 2, 3, 4 or 0 of a rota of n items and m slots. More than 64 items are refused before m is used.
+pub fn table_code(n: usize, m: usize, opens: &[u64], callouts: &[u64]) -> u32
+    requires { ⌜ (n ≤ 64 → m ≤ 64) ⌝ }
+    ensures { λ r. ⌜ r ≡ tableCode n m (now (opens .entry)) (now (callouts .entry)) ⌝ }
 {
     if n == 0 {
         return 1;
@@ -59,7 +60,7 @@ pub fn table_code(n: usize, opens: &[u64], callouts: &[u64]) -> u32
     if callouts.len() != n {
         return 2;
     }
-    cell_code(n, opens, callouts)
+    cell_code(m, opens, callouts)
 }
 
 // 5 or 0, for m slots.
@@ -97,25 +98,34 @@ pub fn fleet_code(vehicles: u64) -> u32
 }
 
 // 1 to 6 or 0, for a tally of so many words.
-pub fn count_code(n: usize, opens: &[u64], callouts: &[u64], tally: usize) -> u32
-    ensures { λ r. ⌜ r ≡ countCode n n (now (opens .entry)) (now (callouts .entry)) tally ⌝ }
+pub fn count_code(n: usize, m: usize, opens: &[u64], callouts: &[u64], tally: usize) -> u32
+    requires { ⌜ (n ≤ 64 → m ≤ 64) ⌝ }
+    ensures { λ r. ⌜ r ≡ countCode n m (now (opens .entry)) (now (callouts .entry)) tally ⌝ }
 {
-    let table = table_code(n, opens, callouts);
+    let table = table_code(n, m, opens, callouts);
     if table != 0 {
         return table;
     }
-    let size = size_code(n);
+    let size = size_code(m);
     if size != 0 {
         return size;
     }
-    tally_code(n, tally)
+    tally_code(m, tally)
 }
 
 // 1 to 7 or 0.
-pub fn price_code(n: usize, opens: &[u64], callouts: &[u64], vehicles: u64, tally: usize) -> u32
-    ensures { λ r. ⌜ r ≡ priceCode n n (now (opens .entry)) (now (callouts .entry)) vehicles tally ⌝ }
+pub fn price_code(
+    n: usize,
+    m: usize,
+    opens: &[u64],
+    callouts: &[u64],
+    vehicles: u64,
+    tally: usize,
+) -> u32
+    requires { ⌜ (n ≤ 64 → m ≤ 64) ⌝ }
+    ensures { λ r. ⌜ r ≡ priceCode n m (now (opens .entry)) (now (callouts .entry)) vehicles tally ⌝ }
 {
-    let code = count_code(n, opens, callouts, tally);
+    let code = count_code(n, m, opens, callouts, tally);
     if code != 0 {
         return code;
     }

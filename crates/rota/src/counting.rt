@@ -15,7 +15,7 @@ pub extern "C" fn rota_count_plans(
     ensures answer { λ r. ⌜ r ≡ countAnswer n n (now (opens .entry)) (now (callouts .entry)) (length (now (tally .entry))) ⌝ }
     ensures tally { λ _. ⌜ now (tally .exit) ≡ countTally n n (now (opens .entry)) (now (callouts .entry)) (now (tally .entry)) ⌝ }
 {
-    let code = acceptance::count_code(n, opens, callouts, tally.len());
+    let code = acceptance::count_code(n, n, opens, callouts, tally.len());
     if code != 0 {
         return CountAnswer { code, count: 0 };
     }

@@ -45,7 +45,7 @@ pub extern "C" fn rota_write_file(
     ensures answer { λ r. ⌜ r ≡ writeAnswer n n (now (opens .entry)) (now (callouts .entry)) (length (now (file .entry))) ⌝ }
     ensures file { λ _. ⌜ now (file .exit) ≡ writeFile n n (now (opens .entry)) (now (callouts .entry)) (now (file .entry)) ⌝ }
 {
-    let code = acceptance::table_code(n, opens, callouts);
+    let code = acceptance::table_code(n, n, opens, callouts);
     if code != 0 {
         return WriteAnswer { code, bytes: 0 };
     }

@@ -9,7 +9,7 @@ use model::PlanAnswer;
 pub extern "C" fn rota_first_plan(n: usize, opens: &[u64], callouts: &[u64]) -> PlanAnswer
     ensures { λ r. ⌜ r ≡ firstAnswer n n (now (opens .entry)) (now (callouts .entry)) ⌝ }
 {
-    let code = acceptance::table_code(n, opens, callouts);
+    let code = acceptance::table_code(n, n, opens, callouts);
     if code != 0 {
         return answers::refused(code);
     }
@@ -26,7 +26,7 @@ pub extern "C" fn rota_next_plan(
 ) -> PlanAnswer
     ensures { λ r. ⌜ r ≡ nextAnswer n n (now (opens .entry)) (now (callouts .entry)) given ⌝ }
 {
-    let code = acceptance::table_code(n, opens, callouts);
+    let code = acceptance::table_code(n, n, opens, callouts);
     if code != 0 {
         return answers::refused(code);
     }
@@ -43,7 +43,7 @@ pub extern "C" fn rota_fewest_callouts(
 ) -> PlanAnswer
     ensures { λ r. ⌜ r ≡ fewestAnswer n n (now (opens .entry)) (now (callouts .entry)) cap ⌝ }
 {
-    let code = acceptance::table_code(n, opens, callouts);
+    let code = acceptance::table_code(n, n, opens, callouts);
     if code != 0 {
         return answers::refused(code);
     }

@@ -14,7 +14,7 @@ pub extern "C" fn rota_usable_slots(
     ensures code { λ r. ⌜ r ≡ usableCode n n (now (opens .entry)) (now (callouts .entry)) (length (now (usable .entry))) ⌝ }
     ensures usable { λ _. ⌜ now (usable .exit) ≡ usableAfter n n (now (opens .entry)) (now (callouts .entry)) (now (usable .entry)) ⌝ }
 {
-    let code = acceptance::table_code(n, opens, callouts);
+    let code = acceptance::table_code(n, n, opens, callouts);
     if code != 0 {
         return code;
     }

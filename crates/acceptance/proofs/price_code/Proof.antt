@@ -4,13 +4,10 @@ use Rattle.model.proofs.Refusals.{stops, goes-on}
 use Rattle.acceptance.proofs.price_code.Statement.{statement}
 use Rattle.acceptance.proofs.price_code.Tie as tie
 
-returns : tie.Need-returns
-unfolding priceCode
-returns c = stops _ _ _ (c .before .count-code .ensures) (c .if1 .taken)
-
-returns-2 : tie.Need-returns-2
-unfolding priceCode
-returns-2 c = goes-on _ _ _ (c .before .before .count-code .ensures) _ (c .before .if1 .left) (c .fleet-code .ensures)
-
 pub price-code-spec : {M : Type 1} → statement M
-price-code-spec = tie.close (tie.spec (λ c κs. tt) returns (λ c κs. tt) returns-2)
+unfolding priceCode
+price-code-spec = tie.close (tie.spec
+    (λ c κs. c .before .before .pre)
+    (λ c. stops _ _ _ (c .before .count-code .ensures) (c .if1 .taken))
+    (λ c κs. tt)
+    (λ c. goes-on _ _ _ (c .before .before .count-code .ensures) _ (c .before .if1 .left) (c .fleet-code .ensures)))

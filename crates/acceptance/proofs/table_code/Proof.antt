@@ -6,34 +6,20 @@ use Rattle.model.specs.Rota.{tableCode}
 use Rattle.acceptance.proofs.table_code.Statement.{statement}
 use Rattle.acceptance.proofs.table_code.Tie as tie
 
-returns : tie.Need-returns
-unfolding tableCode
-returns c = simp (eq-eqb _ _ (c .if1 .taken))
-
-returns-2 : tie.Need-returns-2
-unfolding tableCode
-returns-2 c = simp (ne-eqb _ _ (c .before .if1 .left), lt-ltb _ _ (c .if2 .taken))
-
-returns-3 : tie.Need-returns-3
-unfolding tableCode
-returns-3 c = simp (ne-eqb _ _ (c .before .before .if1 .left), le-ltb _ _ (c .before .if2 .left), ne-eqb _ _ (c .if3 .taken))
-
-returns-4 : tie.Need-returns-4
-unfolding tableCode
-returns-4 c =
-    simp
-    (ne-eqb _ _ (c .before .before .before .if1 .left), le-ltb _ _ (c .before .before .if2 .left), eq-eqb _ _ (c .before .if3 .left), ne-eqb _ _ (c .if4 .taken))
-
-cell-code-requires : tie.Need-cell-code-requires
-cell-code-requires c κs = search needs
-
-returns-5 : tie.Need-returns-5
-unfolding tableCode
-returns-5 c =
-    let at = c .before in
-    c .cell-code .ensures
-    ∙ simp (ne-eqb _ _ (at .before .before .before .if1 .left), le-ltb _ _ (at .before .before .if2 .left), eq-eqb _ _ (at .before .if3 .left), eq-eqb _ _ (at .if4 .left))
-
 pub table-code-spec : {M : Type 1} → statement M
-table-code-spec =
-    tie.close (tie.spec returns returns-2 returns-3 returns-4 cell-code-requires returns-5)
+unfolding tableCode
+table-code-spec = tie.close (tie.spec
+    (λ c. simp (eq-eqb _ _ (c .if1 .taken)))
+    (λ c. simp (ne-eqb _ _ (c .before .if1 .left), lt-ltb _ _ (c .if2 .taken)))
+    (λ c. let at-2 = c .before in simp (ne-eqb _ _ (at-2 .before .if1 .left), le-ltb _ _ (at-2 .if2 .left), ne-eqb _ _ (c .if3 .taken)))
+    (λ c.
+    let at-3 = c .before in
+    let at-2 = at-3 .before in
+    simp (ne-eqb _ _ (at-2 .before .if1 .left), le-ltb _ _ (at-2 .if2 .left), eq-eqb _ _ (at-3 .if3 .left), ne-eqb _ _ (c .if4 .taken)))
+    (λ c κs. (let at-2 = c .before .before in at-2 .before .before .before .before .pre (at-2 .if2 .left), search needs))
+    (λ c.
+    let at-4 = c .before in
+    let at-3 = at-4 .before in
+    let at-2 = at-3 .before in
+    c .cell-code .ensures
+    ∙ simp (ne-eqb _ _ (at-2 .before .if1 .left), le-ltb _ _ (at-2 .if2 .left), eq-eqb _ _ (at-3 .if3 .left), eq-eqb _ _ (at-4 .if4 .left))))
