@@ -14,6 +14,7 @@ pub mod Codes
 pub mod Slots
 pub mod Listing
 pub mod Ways
+pub mod Supports
 pub mod Subsets
 pub mod Parts
 pub mod FileBlocks

@@ -38,7 +38,7 @@ cons-arrangement k s slots q m a = record { sized = ap suc (a .sized); inside = 
     once-at (suc i) zero h g e = absurd (remove-from s slots (a .inside i (omega arith)) .1 (sym e))
     once-at (suc i) (suc j) h g e = ap suc (a .once i j (omega arith) (omega arith) e)
 
-tail-arrangement : (k s : ℕ) (slots q : List ℕ) → IsArrangement (suc k) slots (s ∷ q) → IsArrangement k (remove s slots) q
+pub tail-arrangement : (k s : ℕ) (slots q : List ℕ) → IsArrangement (suc k) slots (s ∷ q) → IsArrangement k (remove s slots) q
 tail-arrangement k s slots q a =
     record {
       sized = suc-inj (a .sized);

@@ -88,7 +88,7 @@ unfoldable pub ways : List ℕ → List ℕ → ℕ
 unfolding matchings
 ways opens slots = length (matchings opens (length opens) slots)
 
-length-flatMap : {A B : Type 0} (f : A → List B) (l : List A) → length (flatMap f l) ≡ total (λ x. length (f x)) l
+pub length-flatMap : {A B : Type 0} (f : A → List B) (l : List A) → length (flatMap f l) ≡ total (λ x. length (f x)) l
 unfolding flatMap total
 length-flatMap f [] = refl
 length-flatMap f (x ∷ l) = length-append (f x) (flatMap f l) ∙ ap (length (f x) +_) (length-flatMap f l)

@@ -1,2 +1,2 @@
-pub mod Summing
-pub mod Upward
+mod Summing
+mod Upward

@@ -1,1 +1,1 @@
-pub mod SubsetWord
+pub mod Served

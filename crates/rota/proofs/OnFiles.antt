@@ -20,7 +20,7 @@ use Rattle.min_cost.proofs.Squares.{squared}
 use Rattle.rota_file.specs.declared.FileRota.{FileRota}
 use Rattle.rota_file.specs.FileRota.{noRota, rotaUnless}
 use Rattle.rota_file.proofs.Rotas.{code-is, file-accepted, opens-are, callouts-are, opens-room, callouts-room}
-use Rattle.rota.proofs.TableCalls.{first-found, next-found, fewest-found}
+use Rattle.rota.proofs.TableCalls.{Passed, first-found, next-found, fewest-found}
 
 -- ---- a plan's record in the first 64 bytes of a buffer
 
@@ -92,6 +92,7 @@ module _ (file old : List ℕ) (r : FileRota) (e : r ≡ rotaUnless (planFileCod
       let both = neither-refuses (fileCode file) _ passed in
       let accepted = file-accepted file _ r e z (both .0) in
       let t = tables-from (itemsIn file) (itemsIn file) (opensIn file) (calloutsIn file) accepted in
+      let passes : Passed (itemsIn file) (itemsIn file) (opensIn file) (calloutsIn file) = record { code = accepted; slots = t .few-items } in
       let os = opens-are file _ r e z (both .0) in
       let ks = callouts-are file _ r e z (both .0) in
       record {
@@ -100,9 +101,9 @@ module _ (file old : List ℕ) (r : FileRota) (e : r ≡ rotaUnless (planFileCod
         callouts-enough = callouts-room file _ r e z (both .0);
         few = omega (arith, ap length os, t .open-words, t .few-items);
         square = rw (os, ks) (squared (itemsIn file) (opensIn file) (calloutsIn file) accepted);
-        first = ap (firstFrom 64) os ∙ first-found _ _ _ 0 (sym accepted) refl;
-        next = λ g. ap (λ w. nextFrom 64 w (g .slots)) os ∙ next-found _ _ _ 0 (sym accepted) refl g;
-        fewest = λ cap. ap₂ (λ w c. fewestFrom 64 w c cap) os ks ∙ fewest-found _ _ _ 0 (sym accepted) refl cap;
+        first = ap (firstFrom 64) os ∙ first-found passes;
+        next = λ g. ap (λ w. nextFrom 64 w (g .slots)) os ∙ next-found passes g;
+        fewest = λ cap. ap₂ (λ w c. fewestFrom 64 w c cap) os ks ∙ fewest-found passes cap;
         stores = λ call a ea c ec new en.
             let q = ea ∙ accepted-answer _ passed refused _ in
             (ec ∙ ap (λ x. x .code) q, en ∙ ap (λ x. bufferAfter x old) q);

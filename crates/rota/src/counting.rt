@@ -19,6 +19,6 @@ pub extern "C" fn rota_count_plans(
     if code != 0 {
         return CountAnswer { code, count: 0 };
     }
-    let count = permanent::count_subsets(opens, tally);
+    let count = permanent::count_subsets(n, opens, tally);
     CountAnswer { code: 0, count }
 }

@@ -2,68 +2,46 @@
 use Prim.Native.Nat.{_-_}
 use native.Mathlib.Omega.{arith}
 use borrow.Author.Needs.{needs}
-use lib.ListN.{length-set}
-use Rattle.permanent.proofs.Upward.{Upward, start, length-counts, below, known, more, finish}
+use lib.ListN.{set, length-set}
+use lib.Pow.{pow-pos}
+use Rattle.permanent.proofs.Upward.{Upward, Turn, start, length-counts, below, sized, room, turn, finish}
 use Rattle.permanent.proofs.count_subsets.Statement.{statement}
 use Rattle.permanent.proofs.count_subsets.Tie as tie
 
 abbrev Inv-loop : tie.InvT-loop
-Inv-loop opens counts₀ last set₀ ways₀ counts set ways = Upward opens counts₀ counts last set ways
+Inv-loop m opens counts₀ end n plans₀ set₀ counts plans set = Upward m opens counts₀ counts end set plans
 
 abbrev μ-loop : tie.MeasureT-loop
-μ-loop opens counts₀ last set₀ ways₀ counts set ways = last - set
+μ-loop m opens counts₀ end n plans₀ set₀ counts plans set = end - set
 
-low-requires : tie.Need-low-requires Inv-loop μ-loop
-low-requires c κs = search needs
+-- the loop's head, from where the word of the set is read
+abbrev at-loop : tie.After-last-open Inv-loop μ-loop → tie.At-loop Inv-loop μ-loop
+at-loop c = c .before .before .before
 
-loop-holds : tie.Need-loop-holds Inv-loop μ-loop
-loop-holds c = start (c .before .before .before .pre) (c .low .ensures)
-
-mul-counts : tie.Need-mul-counts Inv-loop μ-loop
-mul-counts c = omega (arith, below (c .before .loop .inv), length-counts (c .before .loop .inv))
-
-slice-write-counts : tie.Need-slice-write-counts Inv-loop μ-loop
-slice-write-counts c = below (c .before .loop .inv)
-
-add-set : tie.Need-add-set Inv-loop μ-loop
-add-set c = search needs
-
-subset-count-requires : tie.Need-subset-count-requires Inv-loop μ-loop
-subset-count-requires c κs = known (c .before .before .loop .inv) (c .before .loop-test .taken)
-
-loop-less : tie.Need-loop-less Inv-loop μ-loop
-loop-less c = search needs
-
-loop-again : tie.Need-loop-again Inv-loop μ-loop
-loop-again c = more (c .before .before .before .loop .inv) (c .before .before .loop-test .taken) (c .subset-count .ensures)
-
-mul-counts-2 : tie.Need-mul-counts-2 Inv-loop μ-loop
-mul-counts-2 c = omega (arith, below (c .before .loop .inv), length-counts (c .before .loop .inv))
-
-slice-write-counts-2 : tie.Need-slice-write-counts-2 Inv-loop μ-loop
-slice-write-counts-2 c = below (c .before .loop .inv)
-
-same-length : tie.Need-same-length Inv-loop μ-loop
-same-length c = rw length-set (length-counts (c .before .loop .inv))
-
-returns : tie.Need-returns Inv-loop μ-loop
-returns c = finish (c .before .loop .inv) (c .loop-test .left)
+turned : (c : tie.After-complete2 Inv-loop μ-loop)
+    → let at-word = c .before .before .before in let head = at-loop at-word in let args = head .before .before .before .before .before .args in
+    Turn (args .m) (args .opens .now) (set (args .counts .now) 0 1) (head .loop .counts) (head .before .before .single .result) (head .loop .set)
+    (head .loop .plans) (c .before .subset-count .result) (c .complete2 .result)
+turned c =
+    let at-word = c .before .before .before in
+    turn (at-loop at-word .loop .inv) (at-word .before .before .loop-test .taken) (at-word .before .size .ensures) (at-word .last-open .ensures)
+    (c .before .subset-count .ensures) (c .complete2 .ensures)
 
 pub count-subsets-spec : {M : Type 1} → statement M
-count-subsets-spec =
-    tie.close
-    (tie.spec
-    Inv-loop
-    μ-loop
-    low-requires
-    loop-holds
-    mul-counts
-    slice-write-counts
-    add-set
-    subset-count-requires
-    loop-less
-    loop-again
-    mul-counts-2
-    slice-write-counts-2
-    same-length
-    returns)
+count-subsets-spec = tie.close (tie.spec Inv-loop μ-loop
+    (λ c κs. search needs)
+    (λ c. let at-start = c .before .before .before in omega (arith, at-start .pre .1, pow-pos (at-start .args .m)))
+    (λ c κs. search needs)
+    (λ c. let at-start = c .before .before .before .before in start (at-start .args .counts .now) (at-start .pre) (c .before .single .ensures) (c .complete .ensures))
+    (λ c κs. search needs)
+    (λ c κs. sized (c .before .before .loop .inv) (c .before .loop-test .taken) (c .size .ensures))
+    (λ c κs. let at-word = c .before in
+    room (at-loop at-word .loop .inv) (at-word .before .before .loop-test .taken) (at-word .before .size .ensures) (at-word .last-open .ensures))
+    (λ c. let at-word = c .before .before in omega (arith, below (at-loop at-word .loop .inv) (at-word .before .before .loop-test .taken)))
+    (λ c. let at-word = c .before .before in below (at-loop at-word .loop .inv) (at-word .before .before .loop-test .taken))
+    (λ c κs. search needs)
+    (λ c. omega (arith, turned c .fits))
+    (λ c. search needs) (λ c. search needs)
+    (λ c. turned c .next)
+    (λ c. rw (length-counts (c .before .loop .inv)) (simp length-set))
+    (λ c. finish _ (c .before .loop .inv) (c .loop-test .left)))

@@ -1,22 +1,13 @@
 -- `rota_first_plan` meets its contract: refused by the tables, or the search's answer. Assumes nothing.
 use mathlib.Core.Path.{_∙_}
 use borrow.Author.Needs.{needs}
-use Rattle.rota.proofs.TableCalls.{first-refused, first-found, few-items}
+use Rattle.rota.proofs.TableCalls.{passes, first-refused, few-items, first-found}
 use Rattle.rota.proofs.plans.rota_first_plan.Statement.{statement}
 use Rattle.rota.proofs.plans.rota_first_plan.Tie as tie
 
-returns : tie.Need-returns
-returns c = c .refused .ensures ∙ first-refused _ _ _ _ (c .before .before .table-code .ensures) (c .before .if1 .taken)
-
-returns-2 : tie.Need-returns-2
-returns-2 c = c .first-plan .ensures ∙ first-found _ _ _ _ (c .before .before .table-code .ensures) (c .before .if1 .left)
-
 pub rota-first-plan-spec : {M : Type 1} → statement M
-rota-first-plan-spec =
-    tie.close
-    (tie.spec
-    (λ c κs. search needs)
-    (λ c κs. search needs)
-    returns
-    (λ c κs. few-items _ _ _ _ (c .before .table-code .ensures) (c .if1 .left))
-    returns-2)
+rota-first-plan-spec = tie.close (tie.spec
+    (λ c κs. search needs) (λ c κs. search needs)
+    (λ c. c .refused .ensures ∙ first-refused _ _ _ _ _ (c .before .before .table-code .ensures) (c .before .if1 .taken))
+    (λ c κs. few-items (passes _ _ _ _ (c .before .table-code .ensures) (c .if1 .left)))
+    (λ c. c .first-plan .ensures ∙ first-found (passes _ _ _ _ (c .before .before .table-code .ensures) (c .before .if1 .left))))
