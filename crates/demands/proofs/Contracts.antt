@@ -1,5 +1,5 @@
 -- What holds by a call's contract holds of every call. Each contract is used here and nowhere else. Assumes nothing.
-use mathlib.Core.Path.{_≡_, refl}
+use mathlib.Core.Path.{_≡_, refl, sym, subst⁻¹, subst₂}
 use mathlib.Core.List.{List}
 use Prim.Native.Nat.{ℕ}
 use lib.ListN.{length, take}
@@ -21,56 +21,55 @@ use Rattle.model.specs.FileAnswers.{readAnswer, readOpens, readCallouts, writeA
 use Rattle.demands.specs.Calls.{ListCall, EachFirst, EachNext, EachFewest, EachList, EachUsable, EachCount, EachGrade, EachPrice, EachRead, EachWrite}
 use Rattle.demands.specs.Calls.{EachFileFirst, EachFileNext, EachFileFewest, AskNothing}
 
-pub first-each : {Q : ℕ → List ℕ → List ℕ → PlanAnswer → Type 0}
-    → ((n : ℕ) (opens callouts : List ℕ) (r : PlanAnswer) → r ≡ firstAnswer n n opens callouts → Q n opens callouts r) → EachFirst Q
+pub first-each : (Q : ℕ → List ℕ → List ℕ → PlanAnswer → Type 0)
+    → ((n : ℕ) (opens callouts : List ℕ) → Q n opens callouts (firstAnswer n n opens callouts)) → EachFirst Q
 unfolding EachFirst
-first-each f κs a r s l = f (a .0) (now (a .1 .0)) (now (a .1 .1 .0)) r l
+first-each Q f κs a r s l = subst⁻¹ (Q _ _ _) l (f _ _ _)
 
-pub next-each : {Q : ℕ → List ℕ → List ℕ → Plan → PlanAnswer → Type 0}
-    → ((n : ℕ) (opens callouts : List ℕ) (g : Plan) (r : PlanAnswer) → r ≡ nextAnswer n n opens callouts g → Q n opens callouts g r) → EachNext Q
+pub next-each : (Q : ℕ → List ℕ → List ℕ → Plan → PlanAnswer → Type 0)
+    → ((n : ℕ) (opens callouts : List ℕ) (g : Plan) → Q n opens callouts g (nextAnswer n n opens callouts g)) → EachNext Q
 unfolding EachNext
-next-each f κs a r s l = f (a .0) (now (a .1 .0)) (now (a .1 .1 .0)) (a .1 .1 .1 .0) r l
+next-each Q f κs a r s l = subst⁻¹ (Q _ _ _ _) l (f _ _ _ _)
 
-pub fewest-each : {Q : ℕ → List ℕ → List ℕ → ℕ → PlanAnswer → Type 0}
-    → ((n : ℕ) (opens callouts : List ℕ) (cap : ℕ) (r : PlanAnswer) → r ≡ fewestAnswer n n opens callouts cap → Q n opens callouts cap r) → EachFewest Q
+pub fewest-each : (Q : ℕ → List ℕ → List ℕ → ℕ → PlanAnswer → Type 0)
+    → ((n : ℕ) (opens callouts : List ℕ) (cap : ℕ) → Q n opens callouts cap (fewestAnswer n n opens callouts cap)) → EachFewest Q
 unfolding EachFewest
-fewest-each f κs a r s l = f (a .0) (now (a .1 .0)) (now (a .1 .1 .0)) (a .1 .1 .1 .0) r l
+fewest-each Q f κs a r s l = subst⁻¹ (Q _ _ _ _) l (f _ _ _ _)
 
 pub list-met : (c : ListCall)
     → let n = c .args .1 .0 in let e = now (c .args .0) in let opens = now (c .args .1 .1 .0) in let callouts = now (c .args .1 .1 .1 .0) in
     (c .answer ≡ listerAnswer e n n opens callouts) × (now (c .exit .0) ≡ listerAfter e n n opens callouts)
 list-met c = c .learnt
 
-pub list-each : {Q : Lister → ℕ → List ℕ → List ℕ → PlanAnswer → Lister → Type 0}
-    → ((e : Lister) (n : ℕ) (opens callouts : List ℕ) (r : PlanAnswer) (e′ : Lister) → r ≡ listerAnswer e n n opens callouts
-    → e′ ≡ listerAfter e n n opens callouts → Q e n opens callouts r e′) → EachList Q
+pub list-each : (Q : Lister → ℕ → List ℕ → List ℕ → PlanAnswer → Lister → Type 0)
+    → ((e : Lister) (n : ℕ) (opens callouts : List ℕ) → Q e n opens callouts (listerAnswer e n n opens callouts) (listerAfter e n n opens callouts))
+    → EachList Q
 unfolding EachList
-list-each f c = f (now (c .args .0)) (c .args .1 .0) (now (c .args .1 .1 .0)) (now (c .args .1 .1 .1 .0)) (c .answer) (now (c .exit .0)) (list-met c .0) (list-met c .1)
+list-each Q f c = subst₂ (Q _ _ _ _) (sym (list-met c .0)) (sym (list-met c .1)) (f _ _ _ _)
 
-pub usable-each : {Q : ℕ → List ℕ → List ℕ → List ℕ → ℕ → List ℕ → Type 0}
-    → ((n : ℕ) (opens callouts old : List ℕ) (r : ℕ) (new : List ℕ) → r ≡ usableCode n n opens callouts (length old)
-    → new ≡ usableAfter n n opens callouts old → Q n opens callouts old r new) → EachUsable Q
+pub usable-each : (Q : ℕ → List ℕ → List ℕ → List ℕ → ℕ → List ℕ → Type 0)
+    → ((n : ℕ) (opens callouts old : List ℕ)
+    → Q n opens callouts old (usableCode n n opens callouts (length old)) (usableAfter n n opens callouts old)) → EachUsable Q
 unfolding EachUsable
-usable-each f κs a r s l = f (a .0) (now (a .1 .0)) (now (a .1 .1 .0)) (now (a .1 .1 .1 .0)) r (now (s .1 .1 .1 .0)) (l .0) (l .1)
+usable-each Q f κs a r s l = subst₂ (Q _ _ _ _) (sym (l .0)) (sym (l .1)) (f _ _ _ _)
 
-pub count-each : {Q : ℕ → List ℕ → List ℕ → List ℕ → CountAnswer → List ℕ → Type 0}
-    → ((n : ℕ) (opens callouts tally : List ℕ) (r : CountAnswer) (new : List ℕ) → r ≡ countAnswer n n opens callouts (length tally)
-    → new ≡ countTally n n opens callouts tally → Q n opens callouts tally r new) → EachCount Q
+pub count-each : (Q : ℕ → List ℕ → List ℕ → List ℕ → CountAnswer → List ℕ → Type 0)
+    → ((n : ℕ) (opens callouts tally : List ℕ)
+    → Q n opens callouts tally (countAnswer n n opens callouts (length tally)) (countTally n n opens callouts tally)) → EachCount Q
 unfolding EachCount
-count-each f κs a r s l = f (a .0) (now (a .1 .0)) (now (a .1 .1 .0)) (now (a .1 .1 .1 .0)) r (now (s .1 .1 .1 .0)) (l .0) (l .1)
+count-each Q f κs a r s l = subst₂ (Q _ _ _ _) (sym (l .0)) (sym (l .1)) (f _ _ _ _)
 
-pub grade-each : {Q : ℕ → List ℕ → List ℕ → List ℕ → GradeAnswer → List ℕ → Type 0}
-    → ((n : ℕ) (opens callouts tally : List ℕ) (r : GradeAnswer) (new : List ℕ) → r ≡ gradeAnswer n n opens callouts (length tally)
-    → new ≡ gradeTally n n opens callouts tally → Q n opens callouts tally r new) → EachGrade Q
+pub grade-each : (Q : ℕ → List ℕ → List ℕ → List ℕ → GradeAnswer → List ℕ → Type 0)
+    → ((n : ℕ) (opens callouts tally : List ℕ)
+    → Q n opens callouts tally (gradeAnswer n n opens callouts (length tally)) (gradeTally n n opens callouts tally)) → EachGrade Q
 unfolding EachGrade
-grade-each f κs a r s l = f (a .0) (now (a .1 .0)) (now (a .1 .1 .0)) (now (a .1 .1 .1 .0)) r (now (s .1 .1 .1 .0)) (l .0) (l .1)
+grade-each Q f κs a r s l = subst₂ (Q _ _ _ _) (sym (l .0)) (sym (l .1)) (f _ _ _ _)
 
-pub price-each : {Q : ℕ → List ℕ → List ℕ → ℕ → List ℕ → PriceAnswer → List ℕ → Type 0}
-    → ((n : ℕ) (opens callouts : List ℕ) (vehicles : ℕ) (tally : List ℕ) (r : PriceAnswer) (new : List ℕ)
-    → r ≡ priceAnswer n n opens callouts vehicles (length tally) → new ≡ priceTally n n opens callouts vehicles tally
-    → Q n opens callouts vehicles tally r new) → EachPrice Q
+pub price-each : (Q : ℕ → List ℕ → List ℕ → ℕ → List ℕ → PriceAnswer → List ℕ → Type 0)
+    → ((n : ℕ) (opens callouts : List ℕ) (vehicles : ℕ) (tally : List ℕ)
+    → Q n opens callouts vehicles tally (priceAnswer n n opens callouts vehicles (length tally)) (priceTally n n opens callouts vehicles tally)) → EachPrice Q
 unfolding EachPrice
-price-each f κs a r s l = f (a .0) (now (a .1 .0)) (now (a .1 .1 .0)) (a .1 .1 .1 .0) (now (a .1 .1 .1 .1 .0)) r (now (s .1 .1 .1 .1 .0)) (l .0) (l .1)
+price-each Q f κs a r s l = subst₂ (Q _ _ _ _ _) (sym (l .0)) (sym (l .1)) (f _ _ _ _ _)
 
 pub read-each : {Q : List ℕ → List ℕ → List ℕ → ReadAnswer → List ℕ → List ℕ → Type 0}
     → ((file o k : List ℕ) (r : ReadAnswer) (o′ k′ : List ℕ) → r ≡ readAnswer file (length o) (length k) → o′ ≡ readOpens file o k

@@ -110,12 +110,11 @@ front-at values old i h = List·getD-append values (drop (length values) old) 0 
 pub further-kept : (values old : List ℕ) (k : ℕ) → length values ≡ k → drop k (values ++ drop (length values) old) ≡ drop k old
 further-kept values old k e = drop-at values (drop (length values) old) k e ∙ ap (λ j. drop j old) e
 
-pub tallied-is : (n : ℕ) (opens old new : List ℕ) → new ≡ written 0 (subsetCounts n opens) old → Tallied n opens old new
+pub tallied-is : (n : ℕ) (opens old : List ℕ) {code : ℕ} → code ≡ 0 → Tallied n opens old (written code (subsetCounts n opens) old)
 unfolding written subsetCounts
-tallied-is n opens old new e =
-    record {
-      sets = λ set h.
-          ap (λ t. getD t set 0) e ∙ front-at (subsetCounts n opens) old set (omega (arith, length-counts n opens))
-          ∙ map-below (subsetCount n opens) 0 (2 ^ n) set h;
-      further = ap (drop (2 ^ n)) e ∙ further-kept (subsetCounts n opens) old (2 ^ n) (length-counts n opens);
-    }
+tallied-is n opens old z =
+    rw z
+    (record {
+      sets = λ set h. front-at (subsetCounts n opens) old set (omega (arith, length-counts n opens)) ∙ map-below (subsetCount n opens) 0 (2 ^ n) set h;
+      further = further-kept (subsetCounts n opens) old (2 ^ n) (length-counts n opens);
+    })

@@ -1,23 +1,19 @@
 -- Demand 3 holds of the calls: model's theorem on lists of lister calls, of which theirs are an instance. Assumes nothing.
 use mathlib.Core.Path.{_≡_, refl, sym, ap, ap₂, _∙_, subst}
-use mathlib.Core.Bool.{Bool, true, false, cond}
+use mathlib.Core.Bool.{Bool, true, false}
 use mathlib.Core.List.{List, [], _∷_, map}
-use Prim.Native.Nat.{ℕ, zero, suc}
+use Prim.Native.Nat.{ℕ, suc}
 use native.Mathlib.Nat.{suc-inj}
 use native.Mathlib.Omega.{arith}
 use lib.ListN.{length, take, replicate}
-use denote.Ref.{now}
-use Rattle.model.specs.declared.Plan.{Plan}
 use Rattle.model.specs.declared.PlanAnswer.{PlanAnswer}
-use Rattle.model.specs.declared.CountAnswer.{CountAnswer}
 use Rattle.model.specs.declared.Lister.{Lister}
 use Rattle.model.specs.Lists.{Before}
 use Rattle.model.specs.Rota.{tableCode}
-use Rattle.model.specs.Plans.{plans, isPlan, plansAfter}
+use Rattle.model.specs.Plans.{plans}
 use Rattle.model.specs.Allowed.{allowedWords}
 use Rattle.model.specs.Count.{count}
-use Rattle.model.specs.Refusal.{unless}
-use Rattle.model.specs.PlanAnswers.{given, refused, noPlan, firstOf, firstFrom, firstAnswer, nextOf, nextFrom, nextAnswer}
+use Rattle.model.specs.PlanAnswers.{given}
 use Rattle.model.specs.Lister.{listerAnswer, stored, listerAfter}
 use Rattle.model.specs.Listing.{Answered, Chained, IsListing}
 use Rattle.model.specs.UsableAnswers.{usableCode, usableAfter}
@@ -32,54 +28,26 @@ use Rattle.model.proofs.Listing.{plans-listed}
 use Rattle.demands.specs.Calls.{ListCall}
 use Rattle.demands.specs.Demand3.{entry, exit, ListedCall, made, Over, Kind, CallsFrom, ListingOf, Alone, Demand3}
 use Rattle.demands.proofs.Contracts.{list-met, usable-each, count-each}
+use Rattle.demands.proofs.Outcomes.{list-says}
 use Rattle.demands.proofs.Demand2.{counted, usable-front}
 
--- an answer without a refusal is a plan and zeros
-abbrev Gives : PlanAnswer → Type 0
-Gives a = a .code ≡ 0 → a ≡ given (a .plan .slots) 0
-
 module _ (n : ℕ) (opens callouts : List ℕ) where
-  first-gives : Gives (firstAnswer n n opens callouts)
-  unfolding firstAnswer firstFrom firstOf noPlan unless
-  first-gives = go (tableCode n n opens callouts) (plans n opens)
-    where
-      go : (c : ℕ) (l : List (List ℕ)) → Gives (unless refused c (firstOf opens l))
-      go zero [] z = absurd (omega arith)
-      go zero (p ∷ l) z = refl
-      go (suc c) l z = absurd (omega arith)
-
-  next-gives : (g : Plan) → Gives (nextAnswer n n opens callouts g)
-  unfolding nextAnswer nextFrom nextOf unless
-  next-gives g = go (tableCode n n opens callouts) (isPlan n opens (g .slots)) (plansAfter n opens (g .slots))
-    where
-      go : (c : ℕ) (b : Bool) (l : List (List ℕ)) → Gives (unless refused c (cond b (nextOf l) (refused 8)))
-      go zero true [] z = absurd (omega arith)
-      go zero true (p ∷ l) z = refl
-      go zero false l z = absurd (omega arith)
-      go (suc c) b l z = absurd (omega arith)
-
-  lister-gives : (e : Lister) → Gives (listerAnswer e n n opens callouts)
-  unfolding listerAnswer
-  lister-gives e = go (e .started)
-    where
-      go : (b : Bool) → Gives (cond b (nextAnswer n n opens callouts (e .plan)) (firstAnswer n n opens callouts))
-      go true = next-gives (e .plan)
-      go false = first-gives
-
-  -- the calls over the rota answer as the lister does, and leave it as `stored` says
   abbrev own : Lister → PlanAnswer
   own e = listerAnswer e n n opens callouts
 
+  -- an answer without a refusal is a plan and zeros
+  own-gives : (e : Lister) → own e .code ≡ 0 → own e ≡ given (own e .plan .slots) 0
+  own-gives e z =
+      let s = list-says n opens callouts e .on-success z in
+      λ i. record { code = z i; shortage = s .0 i; items = s .1 i; callouts = s .2 i; plan = own e .plan }
+
+  -- the calls over the rota answer as the lister does, and leave it as `stored` says
   left-as : (c : ListCall) (e : Lister) → entry c ≡ e → exit c ≡ stored e (c .answer)
   unfolding listerAfter
-  left-as c e q = list-met c .1 ∙ ap (stored (entry c)) (sym (list-met c .0)) ∙ ap (λ x. stored x (c .answer)) q
+  left-as c e q = rw (← q, list-met c .0) (list-met c .1)
 
   answers-as : (c : ListCall) (e : Lister) → entry c ≡ e → Over n opens callouts c → c .answer ≡ own e
-  answers-as c e q o =
-      list-met c .0
-      ∙ ap (λ x. listerAnswer x (c .args .1 .0) (c .args .1 .0) (now (c .args .1 .1 .0)) (now (c .args .1 .1 .1 .0))) q
-      ∙ ap (λ k. listerAnswer e k k (now (c .args .1 .1 .0)) (now (c .args .1 .1 .1 .0))) (o .0)
-      ∙ ap₂ (λ x y. listerAnswer e n n x y) (o .1) (o .2)
+  answers-as c e q o = rw (← q, ← o .0, ← o .1, ← o .2) (list-met c .0)
 
   chained : (e : Lister) (calls : List ListedCall) → CallsFrom n opens callouts e calls → Chained own e (map made calls)
   chained e [] c = tt
@@ -96,7 +64,7 @@ module _ (n : ℕ) (opens callouts : List ℕ) where
   is-listing e (c ∷ calls) [] i = λ z. i .2 (ap (λ (x : PlanAnswer). x .code) (answers-as c e (i .0) (i .1)) ∙ z)
   is-listing e (c ∷ calls) (p ∷ l) i =
       let q = answers-as c e (i .0) (i .1) in (
-        lister-gives e (sym (ap (λ (x : PlanAnswer). x .code) q) ∙ i .2)
+        own-gives e (sym (ap (λ (x : PlanAnswer). x .code) q) ∙ i .2)
             ∙ ap (λ x. given x 0) (sym (ap (λ (x : PlanAnswer). x .plan .slots) q) ∙ i .3),
         subst (λ x. IsListing own x l) (left-as c e (i .0)
             ∙ ap (stored e) q) (is-listing (exit c) calls l (i .4)),
@@ -112,10 +80,9 @@ module _ (n : ℕ) (opens callouts : List ℕ) where
       (a .0, a .1, ap (λ (x : PlanAnswer). x .code) q, ap (λ (x : PlanAnswer). x .plan .slots) q, to-end (exit c) calls l (a .2) (suc-inj s) (subst (λ x. IsListing own x l) (sym next) (i .1)))
 
 -- the words that a usable call over the rota wrote
-usable-written : (n : ℕ) (opens callouts : List ℕ) (n′ : ℕ) (o k old : List ℕ) (r : ℕ) (new : List ℕ) → r ≡ usableCode n′ n′ o k (length old)
-    → new ≡ usableAfter n′ n′ o k old
-    → n′ ≡ n → o ≡ opens → k ≡ callouts → r ≡ 0 → take n new ≡ allowedWords n opens
-usable-written n opens callouts n′ o k old r new e w sn so sk z = sym (ap (λ j. take j new) sn) ∙ usable-front n′ o k old new (sym e ∙ z) w ∙ ap₂ allowedWords sn so
+usable-written : (n : ℕ) (opens : List ℕ) (n′ : ℕ) (o k old : List ℕ) → n′ ≡ n → o ≡ opens → usableCode n′ n′ o k (length old) ≡ 0
+    → take n (usableAfter n′ n′ o k old) ≡ allowedWords n opens
+usable-written n opens n′ o k old sn so z = rw (← sn, ← so) (usable-front n′ o k old z)
 
 -- ---- the theorem
 
@@ -133,23 +100,17 @@ demand3 n opens callouts ok =
       to-its-end = λ e f calls a s. to-end n opens callouts e calls (plans n opens) a s (L .listing e f (plans n opens) .1 refl);
       every-plan = plans-are n opens F R;
       once = chain-at Before [] (plans n opens) (plans-rise n opens);
-      counted = count-each (λ n′ o k tally r new e w sn so sk z.
-          ap (λ (x : CountAnswer). x .count) e
-          ∙ counted n′ o k (length tally) (sym (count-code n′ n′ o k (length tally)) ∙ sym (ap (λ (x : CountAnswer). x .code) e) ∙ z)
-          ∙ permanent-is-count n′ o ∙ ap₂ count sn so);
+      counted = count-each _ (λ n′ o k tally sn so sk z.
+          counted n′ o k (length tally) (sym (count-code n′ n′ o k (length tally)) ∙ z) ∙ permanent-is-count n′ o ∙ ap₂ count sn so);
       compared = λ opens″ callouts″ ok″.
-          usable-each (λ n′ o k old r new e w sn so sk z.
-          usable-each (λ n″ o″ k″ old″ r″ new″ e″ w″ sn″ so″ sk″ z″.
-          let a = usable-written n opens callouts n′ o k old r new e w sn so sk z in
-          let b = usable-written n opens″ callouts″ n″ o″ k″ old″ r″ new″ e″ w″ sn″ so″ sk″ z″ in
-          let q = same-listing n opens opens″ F (accepted n n opens″ callouts″ ok″ .open-words
-          ∙ sym (accepted n n opens callouts ok .open-words)) R (range n n opens″ callouts″ ok″) in
+          let sized = accepted n n opens″ callouts″ ok″ .open-words ∙ sym (accepted n n opens callouts ok .open-words) in
+          let q = same-listing n opens opens″ F sized R (range n n opens″ callouts″ ok″) in
+          usable-each _ (λ n′ o k old sn so sk z. usable-each _ (λ n″ o″ k″ old″ sn″ so″ sk″ z″.
+          let a = usable-written n opens n′ o k old sn so z in
+          let b = usable-written n opens″ n″ o″ k″ old″ sn″ so″ z″ in
           (λ h. a ∙ q .0 h ∙ sym b, λ h. q .1 (sym a ∙ h ∙ b))));
       no-plan = λ f.
-          let none = no-plans n opens F R f in (
-            none,
-            usable-each (λ n′ o k old r new e w sn so sk z.
-                usable-written n opens callouts n′ o k old r new e w sn so sk z ∙ none-allowed n opens none
-                ∙ ap (λ j. replicate j 0) (accepted n n opens callouts ok .open-words)),
-          );
+          let none = no-plans n opens F R f in
+          let zeros = none-allowed n opens none ∙ ap (λ j. replicate j 0) (accepted n n opens callouts ok .open-words) in
+          (none, usable-each _ (λ n′ o k old sn so sk z. usable-written n opens n′ o k old sn so z ∙ zeros));
     }

@@ -2,7 +2,8 @@ mod Contracts
 mod Highest
 mod TestLaws
 mod Searched
-pub mod Demand1
 mod Definitions
+mod Outcomes
+pub mod Demand1
 pub mod Demand2
 pub mod Demand3
