@@ -1,5 +1,5 @@
 -- What holds by a call's contract holds of every call. Each contract is used here and nowhere else. Assumes nothing.
-use mathlib.Core.Path.{_≡_, refl, sym, subst⁻¹, subst₂}
+use mathlib.Core.Path.{_≡_, sym, subst⁻¹, subst₂}
 use mathlib.Core.List.{List}
 use Prim.Native.Nat.{ℕ}
 use lib.ListN.{length, take}
@@ -102,19 +102,4 @@ unfolding EachFileFewest
 file-fewest-each f κs a r s l = f (now (a .0)) (now (a .1 .0)) (a .1 .1 .0) r (now (s .1 .0)) (l .0) (l .1)
 
 pub ask-nothing : AskNothing
-ask-nothing =
-    record {
-      first-plan = λ κs a. tt;
-      next-plan = λ κs a. tt;
-      fewest-callouts = λ κs a. tt;
-      usable-slots = λ κs a. tt;
-      count-plans = λ κs a. tt;
-      grade = λ κs a. tt;
-      monthly-price = λ κs a. tt;
-      read-file = λ κs a. tt;
-      write-file = λ κs a. tt;
-      file-first-plan = λ κs a. tt;
-      file-next-plan = λ κs a. tt;
-      file-fewest-callouts = λ κs a. tt;
-      list-plan = λ κs a. refl;
-    }
+ask-nothing = search tt

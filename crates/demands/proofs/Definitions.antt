@@ -1,101 +1,180 @@
--- Document 01's definitions by index: what the lists of plans, the deficient set and the written tables are. Assumes nothing.
-use mathlib.Core.Path.{_≡_, refl, sym, ap, _∙_, subst}
+-- Document 01's definitions by index, of accepted tables: what the lists of plans, the deficient set and the written tables are, and when
+-- 8, 9, 10 and 11 are found. Assumes nothing.
+use mathlib.Core.Path.{_≡_, refl, sym, ap, _∙_}
 use mathlib.Core.Logic.{_⊎_, inl, inr, ⊎-elim, _↔_}
-use mathlib.Core.List.{List, [], _∷_, _++_, List·Memᴰ, List·Memᴰ·head, List·Memᴰ·cases-cons}
-use Prim.Native.Nat.{ℕ, _^_, _<_}
+use mathlib.Core.Bool.{Bool, true, false, cond, false≢true}
+use mathlib.Core.List.{List, [], _∷_, _++_, List·Memᴰ, List·Memᴰ·head, List·Memᴰ·cases-cons, List·Memᴰ·not-nil}
+use Prim.Native.Nat.{ℕ, _^_, _<_, _≤_}
 use native.Mathlib.Nat.{lt-of-lt-of-le}
 use native.Mathlib.Omega.{arith}
+use borrow.Author.Tests.{leb-true, leb-false}
 use lib.ListN.{length, getD, drop, List·getD-append}
 use lib.Pow.{pow-mono}
 use lib.Seq.{drop-at}
+use lib.Dec.{leb}
 use Rattle.words.specs.Word.{bit}
 use Rattle.words.proofs.Sums.{map-below, length-map-below}
-use Rattle.model.specs.Lists.{before, Before, Chain}
+use Rattle.model.specs.Lists.{before, Before, Chain, same}
 use Rattle.model.specs.Refusal.{written}
 use Rattle.model.specs.Rota.{tableCode}
-use Rattle.model.specs.Plans.{plans, plansAfter, IsPlan}
+use Rattle.model.specs.Plans.{plans, plansAfter, IsPlan, isPlan}
 use Rattle.model.specs.Fewest.{fewest, fewestPlans}
 use Rattle.model.specs.Deficiency.{deficiency, deficientSet}
-use Rattle.model.specs.Allowed.{allowedWord, allowedWords}
-use Rattle.model.specs.Count.{subsetCount, subsetCounts}
-use Rattle.model.proofs.Members.{keep-from, keep-into}
+use Rattle.model.specs.Allowed.{allowedWords}
+use Rattle.model.specs.Count.{subsetCount, subsetCounts, count}
+use Rattle.model.specs.PlanAnswers.{given, refused, overCap, noPlan, firstOf, firstFrom, nextOf, nextFrom, fewestOf, fewestFrom}
+use Rattle.model.specs.PriceAnswers.{gradeBy, priceBy}
+use Rattle.model.proofs.Members.{keep-from, keep-into, is-true, any-from, same-eq}
 use Rattle.model.proofs.Order.{chain-keep}
 use Rattle.model.proofs.Accepted.{tables-from}
-use Rattle.model.proofs.Plans.{plans-rise}
-use Rattle.model.proofs.Laws.{few, range}
+use Rattle.model.proofs.Plans.{plans-rise, plan-from, plan-into}
+use Rattle.model.proofs.Laws.{few, range, is-plan}
 use Rattle.model.proofs.Deficiency.{deficiency-bound, deficient-greatest, deficient-within}
 use Rattle.model.proofs.Allowed.{length-allowed, allowed-at, allowed-into, allowed-from}
-use Rattle.model.proofs.Fewest.{fewest-le, fewest-member, fewest-number, fewest-before, fewest-into}
+use Rattle.model.proofs.Fewest.{fewest-le, fewest-member, fewest-number, fewest-before, fewest-into, fewest-empty}
 use Rattle.maximum.proofs.Hall.{hall}
 use Rattle.demands.specs.Demand2.{IsFirst, IsNext, IsFewestPlan, IsFewest, IsShort, Tallied}
-use Rattle.demands.proofs.Searched.{from, into, none}
+use Rattle.demands.specs.Tests.{FirstOf, test8, test9, test10, test11}
 
 -- the members of a rising list are its head or follow it
 head-least : (p : List ℕ) (l : List (List ℕ)) → Chain Before (p ∷ l) → (q : List ℕ) → List·Memᴰ q (p ∷ l) → (q ≡ p) ⊎ Before p q
 head-least p l c q h = ⊎-elim inl (λ m. inr (c .0 q m)) (List·Memᴰ·cases-cons h)
 
-module _ (n : ℕ) (opens callouts : List ℕ) (ok : tableCode n n opens callouts ≡ 0) where
-  -- ---- plans
+module _ (n m : ℕ) (opens callouts : List ℕ) (ok : tableCode n m opens callouts ≡ 0) where
+  F : length opens ≤ 64
+  F = few n m opens callouts ok
 
-  pub first-is : (p : List ℕ) (l : List (List ℕ)) → plans n opens ≡ p ∷ l → IsFirst opens p
-  first-is p l e =
-      record {
-        plan = from n n opens callouts ok p (subst (List·Memᴰ p) (sym e) (List·Memᴰ·head refl));
-        least = λ q Q. head-least p l (subst (Chain Before) e (plans-rise n opens)) q (subst (List·Memᴰ q) e (into n n opens callouts ok q Q));
-      }
+  R : (i : ℕ) → i < length opens → getD opens i 0 < 2 ^ m
+  R = range n m opens callouts ok
 
-  pub next-is : (g p : List ℕ) (l : List (List ℕ)) → plansAfter n opens g ≡ p ∷ l → IsNext opens g p
+  from : (p : List ℕ) → List·Memᴰ p (plans m opens) → IsPlan opens p
+  from = plan-from m opens F R
+
+  into : (p : List ℕ) → IsPlan opens p → List·Memᴰ p (plans m opens)
+  into = plan-into m opens F R
+
+  is-so : (g : List ℕ) → isPlan m opens g ≡ true → IsPlan opens g
+  unfolding isPlan
+  is-so g e = let r = any-from (same g) (plans m opens) (rw e tt) in from g (rw (same-eq g (r .0) (is-true _ (r .2))) (r .1))
+
+  after-from : (g p : List ℕ) → List·Memᴰ p (plansAfter m opens g) → IsPlan opens p × Before g p
   unfolding plansAfter
-  next-is g p l e =
-      let r = keep-from (before g) (plans n opens) (subst (List·Memᴰ p) (sym e) (List·Memᴰ·head refl)) in
+  after-from g p h = let r = keep-from (before g) (plans m opens) h in (from p (r .0), r .1)
+
+  after-into : (g p : List ℕ) → IsPlan opens p → Before g p → List·Memᴰ p (plansAfter m opens g)
+  unfolding plansAfter
+  after-into g p P b = keep-into (before g) (plans m opens) (into p P) b
+
+  after-rise : (m : ℕ) (opens g : List ℕ) → Chain Before (plansAfter m opens g)
+  unfolding plansAfter
+  after-rise m opens g = chain-keep Before (before g) (plans m opens) (plans-rise m opens)
+
+  -- ---- the first plan, and 9
+
+  pub first-is : (p : List ℕ) (l : List (List ℕ)) → plans m opens ≡ p ∷ l → IsFirst opens p
+  first-is p l e = record { plan = from p (rw e (List·Memᴰ·head refl)); least = λ q Q. head-least p l (rw e at (plans-rise m opens)) q (rw e at (into q Q)) }
+
+  none : plans m opens ≡ [] → (p : List ℕ) → IsPlan opens p → ⊥
+  none e p P = List·Memᴰ·not-nil (rw e at (into p P))
+
+  -- a number that is 9 without a plan, else 0
+  found-9 : (number : List (List ℕ) → ℕ) → number [] ≡ 9 → ((p : List ℕ) (l : List (List ℕ)) → number (p ∷ l) ≡ 0)
+      → FirstOf (test9 opens ∷ []) (number (plans m opens))
+  unfolding FirstOf
+  found-9 number e f = go (plans m opens) refl
+    where
+      go : (l : List (List ℕ)) → plans m opens ≡ l → FirstOf (test9 opens ∷ []) (number l)
+      go [] q = inl (none q, e)
+      go (p ∷ l) q = inr (λ h. h p (first-is p l q .plan), f p l)
+
+  pub first-tests : FirstOf (test9 opens ∷ []) (firstFrom m opens .code)
+  unfolding firstFrom firstOf noPlan
+  first-tests = found-9 (λ l. firstOf opens l .code) refl (λ p l. refl)
+
+  pub grade-tests : FirstOf (test9 opens ∷ []) (gradeBy opens (count m opens) .code)
+  unfolding gradeBy count
+  grade-tests = found-9 (λ l. gradeBy opens (length l) .code) refl (λ p l. refl)
+
+  pub price-tests : (vehicles number : ℕ) → FirstOf (test9 opens ∷ []) (priceBy opens (count m opens) vehicles number .code)
+  unfolding priceBy count
+  price-tests vehicles number = found-9 (λ l. priceBy opens (length l) vehicles number .code) refl (λ p l. refl)
+
+  pub short-is : m ≤ 64 → plans m opens ≡ [] → IsShort opens (deficiency opens) (deficientSet opens)
+  short-is slots e =
       record {
-        plan = from n n opens callouts ok p (r .0);
-        after = r .1;
-        least = λ q Q b. head-least p l (subst (Chain Before) e (chain-keep Before (before g) (plans n opens) (plans-rise n opens))) q
-            (subst (List·Memᴰ q) e (keep-into (before g) (plans n opens) (into n n opens callouts ok q Q) b));
+        some = hall opens F (λ i h. lt-of-lt-of-le (R i h) (pow-mono slots)) (none e);
+        set = deficient-greatest opens .0;
+        short = deficient-greatest opens .1;
+        greatest = deficiency-bound opens;
+        smallest = deficient-within opens m R;
       }
 
-  module _ (p : List ℕ) (l : List (List ℕ)) (e : fewestPlans n opens callouts ≡ p ∷ l) where
-    pub fewest-is : IsFewestPlan opens callouts p (fewest n opens callouts)
+  -- ---- the next plan, 8 and 10
+
+  pub next-is : (g p : List ℕ) (l : List (List ℕ)) → plansAfter m opens g ≡ p ∷ l → IsNext opens g p
+  next-is g p l e =
+      let r = after-from g p (rw e (List·Memᴰ·head refl)) in
+      record { plan = r .0; after = r .1; least = λ q Q b. head-least p l (rw e at (after-rise m opens g)) q (rw e at (after-into g q Q b)) }
+
+  follows : (g : List ℕ) → FirstOf (test10 opens g ∷ []) (nextOf (plansAfter m opens g) .code)
+  unfolding FirstOf nextOf
+  follows g = go (plansAfter m opens g) refl
+    where
+      go : (l : List (List ℕ)) → plansAfter m opens g ≡ l → FirstOf (test10 opens g ∷ []) (nextOf l .code)
+      go [] e = inl (λ p P b. List·Memᴰ·not-nil (rw e at (after-into g p P b)), refl)
+      go (p ∷ l) e = inr (λ f. f p (next-is g p l e .plan) (next-is g p l e .after), refl)
+
+  pub next-tests : (g : List ℕ) → FirstOf (test8 opens g ∷ test10 opens g ∷ []) (nextFrom m opens g .code)
+  unfolding FirstOf nextFrom
+  next-tests g = go (isPlan m opens g) refl
+    where
+      go : (b : Bool) → isPlan m opens g ≡ b → FirstOf (test8 opens g ∷ test10 opens g ∷ []) (cond b (nextOf (plansAfter m opens g)) (refused 8) .code)
+      go true e = inr (λ f. f (is-so g e), follows g)
+      go false e = inl (λ P. false≢true (sym e ∙ is-plan m opens F R g P), refl)
+
+  -- ---- the fewest callouts, 9 and 11
+
+  module _ (p : List ℕ) (l : List (List ℕ)) (e : fewestPlans m opens callouts ≡ p ∷ l) where
+    pub fewest-is : IsFewestPlan opens callouts p (fewest m opens callouts)
     fewest-is =
         record {
-          plan = from n n opens callouts ok p (fewest-member n opens callouts p l e);
-          called-out = fewest-number n opens callouts p l e;
-          fewest = λ q Q. fewest-le n opens callouts q (into n n opens callouts ok q Q);
-          least = λ q Q c. ⊎-elim inl (λ m. inr (fewest-before n opens callouts p l e q m)) (List·Memᴰ·cases-cons (fewest-into n opens callouts p l e q (into n n opens callouts ok q Q) c));
+          plan = from p (fewest-member m opens callouts p l e);
+          called-out = fewest-number m opens callouts p l e;
+          fewest = λ q Q. fewest-le m opens callouts q (into q Q);
+          least = λ q Q c. ⊎-elim inl (λ h. inr (fewest-before m opens callouts p l e q h))
+              (List·Memᴰ·cases-cons (fewest-into m opens callouts p l e q (into q Q) c));
         }
 
-    pub is-fewest : IsFewest opens callouts (fewest n opens callouts)
+    pub is-fewest : IsFewest opens callouts (fewest m opens callouts)
     is-fewest = record { some = (p, fewest-is .plan, fewest-is .called-out); fewest = fewest-is .fewest }
 
-  -- ---- the shortage
+  pub fewest-tests : (cap : ℕ) → FirstOf (test9 opens ∷ test11 opens callouts cap ∷ []) (fewestFrom m opens callouts cap .code)
+  unfolding FirstOf fewestFrom fewestOf noPlan
+  fewest-tests cap = go (fewestPlans m opens callouts) refl
+    where
+      number : ℕ
+      number = fewest m opens callouts
 
-  pub short-is : plans n opens ≡ [] → IsShort opens (deficiency opens) (deficientSet opens)
-  short-is e =
-      let R = range n n opens callouts ok in
-      let wide : (i : ℕ) → i < length opens → getD opens i 0 < 2 ^ 64 = λ i h. lt-of-lt-of-le (R i h) (pow-mono (tables-from n n opens callouts ok .few-items)) in
-      let g = deficient-greatest opens in
-      record {
-        some = hall opens (few n n opens callouts ok) wide (none n n opens callouts ok e);
-        set = g .0;
-        short = g .1;
-        greatest = deficiency-bound opens;
-        smallest = deficient-within opens n R;
-      }
+      capped : (p : List ℕ) → IsFewestPlan opens callouts p number → (b : Bool) → leb number cap ≡ b
+          → FirstOf (test11 opens callouts cap ∷ []) (cond b (given p number) (overCap number) .code)
+      capped p f true h = inr (λ x. omega (arith, x p (f .plan), f .called-out, leb-true number cap h), refl)
+      capped p f false h = inl (λ q Q. omega (arith, f .fewest q Q, leb-false number cap h), refl)
+
+      go : (l : List (List ℕ)) → fewestPlans m opens callouts ≡ l → FirstOf (test9 opens ∷ test11 opens callouts cap ∷ []) (fewestOf opens cap number l .code)
+      go [] e = inl (none (fewest-empty m opens callouts e), refl)
+      go (p ∷ l) e = inr (λ f. f p (fewest-is p l e .plan), capped p (fewest-is p l e) (leb number cap) refl)
 
   -- ---- the usable table
 
-  pub usable-is : (i j : ℕ) → i < n → (bit (getD (allowedWords n opens) i 0) j ≡ 1) ↔ ((p : List ℕ) × IsPlan opens p × (getD p i 0 ≡ j))
+  pub usable-is : (i j : ℕ) → i < n → (bit (getD (allowedWords m opens) i 0) j ≡ 1) ↔ ((p : List ℕ) × IsPlan opens p × (getD p i 0 ≡ j))
   usable-is i j h =
-      let F = few n n opens callouts ok in
-      let R = range n n opens callouts ok in
-      let word = allowed-at n opens i (omega (arith, tables-from n n opens callouts ok .open-words)) in (
-        λ b. allowed-from n opens F R i j (sym (ap (λ w. bit w j) word) ∙ b),
-        λ x. ap (λ w. bit w j) word ∙ ap (bit (allowedWord n opens i)) (sym (x .2)) ∙ allowed-into n opens F R (x .0) (x .1) i,
+      let word = allowed-at m opens i (omega (arith, tables-from n m opens callouts ok .open-words)) in (
+        λ b. allowed-from m opens F R i j (rw word at b),
+        λ x. rw (word, ← x .2) (allowed-into m opens F R (x .0) (x .1) i),
       )
 
-  pub usable-words : length (allowedWords n opens) ≡ n
-  usable-words = length-allowed n opens ∙ tables-from n n opens callouts ok .open-words
+  pub usable-words : length (allowedWords m opens) ≡ n
+  usable-words = length-allowed m opens ∙ tables-from n m opens callouts ok .open-words
 
 -- ---- the tally
 

@@ -3,7 +3,7 @@ use mathlib.Core.Path.{_≡_, refl, sym, ap, _∙_, subst}
 use mathlib.Core.Logic.{_≢_}
 use mathlib.Core.Bool.{Bool, true, false, cond}
 use mathlib.Core.List.{List, [], _∷_}
-use Prim.Native.Nat.{ℕ, zero, suc, _*_}
+use Prim.Native.Nat.{ℕ, zero, suc, _*_, _^_}
 use lib.ListN.{length, take}
 use Rattle.model.specs.declared.Plan.{Plan}
 use Rattle.model.specs.declared.PlanAnswer.{PlanAnswer}
@@ -28,8 +28,8 @@ use Rattle.demands.specs.Tests.{Test, FirstOf, test5, test6, test7, test
 use Rattle.demands.specs.Demand1.{Demand1}
 use Rattle.demands.proofs.Contracts.{first-each, next-each, fewest-each, list-each, usable-each, count-each, grade-each, price-each, read-each}
 use Rattle.demands.proofs.Contracts.{write-each, file-first-each, file-next-each, file-fewest-each, ask-nothing}
-use Rattle.demands.proofs.TestLaws.{none-fits, tables-first, file-first, size-first, tally-first, fleet-first, room-first}
-use Rattle.demands.proofs.Searched.{first-tests, next-tests, fewest-tests, grade-tests, price-tests}
+use Rattle.demands.proofs.TestLaws.{none-fits, tables-first, file-first, either, equals, less, test-first, room-first}
+use Rattle.demands.proofs.Definitions.{first-tests, next-tests, fewest-tests, grade-tests, price-tests}
 use Rattle.demands.proofs.Outcomes.{first-says, next-says, list-says, fewest-says, grade-says, price-says}
 
 -- ---- the numbers, in their order
@@ -67,20 +67,25 @@ module _ (n : ℕ) (opens callouts : List ℕ) where
       → FirstOf (tables n opens callouts (test5 n ∷ test6 n tally ∷ others)) (orElse (countCode n n opens callouts (length tally)) later)
   unfolding countCode
   counted tally others later f =
-      simp or-assoc (tables-first n opens callouts _ _ (λ ok. size-first _ _ n (λ s. tally-first others later n tally (λ t. f ok))))
+      simp or-assoc
+      (tables-first n opens callouts _ _ (λ ok.
+      test-first (test5 n) 4 _ refl (less 20 n) _ _ (λ s. test-first (test6 n tally) 5 _ refl (less (length tally) (2 ^ n)) others later (λ t. f ok))))
 
   count-number : (tally : List ℕ) → FirstOf (tables n opens callouts (test5 n ∷ test6 n tally ∷ [])) (countAnswer n n opens callouts (length tally) .code)
   count-number tally = last _ _ _ (counted tally [] 0 (λ ok. none-fits)) (count-code n n opens callouts (length tally))
 
-  grade-number : (tally : List ℕ) → FirstOf (tables n opens callouts (test5 n ∷ test6 n tally ∷ test9 opens ∷ [])) (gradeAnswer n n opens callouts (length tally) .code)
+  grade-number : (tally : List ℕ)
+      → FirstOf (tables n opens callouts (test5 n ∷ test6 n tally ∷ test9 opens ∷ [])) (gradeAnswer n n opens callouts (length tally) .code)
   grade-number tally = rw (grade-code n n opens callouts (length tally)) (counted tally _ _ (grade-tests n n opens callouts))
 
   price-number : (vehicles : ℕ) (tally : List ℕ)
-      → FirstOf (tables n opens callouts (test5 n ∷ test6 n tally ∷ test7 vehicles ∷ test9 opens ∷ [])) (priceAnswer n n opens callouts vehicles (length tally) .code)
+      → FirstOf (tables n opens callouts (test5 n ∷ test6 n tally ∷ test7 vehicles ∷ test9 opens ∷ []))
+      (priceAnswer n n opens callouts vehicles (length tally) .code)
   unfolding priceCode
   price-number vehicles tally =
       rw (price-code n n opens callouts (length tally) vehicles, or-assoc (countCode n n opens callouts (length tally)))
-      (counted tally _ _ (λ ok. fleet-first _ _ vehicles (λ v. price-tests n n opens callouts ok vehicles _)))
+      (counted tally _ _ (λ ok.
+      test-first (test7 vehicles) 6 _ refl (either _ _ _ _ (equals vehicles 0) (less 10000 vehicles)) _ _ (λ v. price-tests n n opens callouts ok vehicles _)))
 
 module _ (file : List ℕ) where
   read-says : (o k : List ℕ) → FirstOf (fileTests file (test15 o (itemsIn file) ∷ test15 k (itemsIn file) ∷ [])) (readAnswer file (length o) (length k) .code)
@@ -141,7 +146,7 @@ kept r code values old new e q d = q ∙ sym (nothing-written r code d (sym e) v
 -- ---- the theorem
 
 pub demand1 : Demand1
-unfolding listerAfter usableCode usableAfter countTally gradeTally priceTally readOpens readCallouts writeCode writeFile fileFirst fileNext fileFewest bufferAfter
+unfolding listerAfter usableAfter countTally gradeTally priceTally readOpens readCallouts writeCode writeFile bufferAfter fileFirst fileNext fileFewest
 demand1 =
     record {
       anything = ask-nothing;

@@ -48,7 +48,7 @@ module _ (n : ℕ) (opens callouts old : List ℕ) (z : usableCode n n opens cal
   accepted = neither-refuses (tableCode n n opens callouts) _ z .0
 
   size : length (allowedWords n opens) ≡ n
-  size = usable-words n opens callouts accepted
+  size = usable-words n n opens callouts accepted
 
   words : usableAfter n n opens callouts old ≡ allowedWords n opens ++ drop (length (allowedWords n opens)) old
   unfolding usableAfter
@@ -60,7 +60,7 @@ module _ (n : ℕ) (opens callouts old : List ℕ) (z : usableCode n n opens cal
   usable-holds : ((i j : ℕ) → i < n → (bit (getD (usableAfter n n opens callouts old) i 0) j ≡ 1) ↔ ((p : List ℕ) × IsPlan opens p × (getD p i 0 ≡ j)))
       × (drop n (usableAfter n n opens callouts old) ≡ drop n old)
   usable-holds = (
-    λ i j h. rw (words, front-at (allowedWords n opens) old i (omega (arith, size))) (usable-is n opens callouts accepted i j h),
+    λ i j h. rw (words, front-at (allowedWords n opens) old i (omega (arith, size))) (usable-is n n opens callouts accepted i j h),
     rw (words, further-kept (allowedWords n opens) old n size),
   )
 

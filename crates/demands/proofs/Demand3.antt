@@ -1,5 +1,5 @@
 -- Demand 3 holds of the calls: model's theorem on lists of lister calls, of which theirs are an instance. Assumes nothing.
-use mathlib.Core.Path.{_≡_, refl, sym, ap, ap₂, _∙_, subst}
+use mathlib.Core.Path.{_≡_, refl, sym, ap, ap₂, _∙_}
 use mathlib.Core.Bool.{Bool, true, false}
 use mathlib.Core.List.{List, [], _∷_, map}
 use Prim.Native.Nat.{ℕ, suc}
@@ -59,25 +59,24 @@ module _ (n : ℕ) (opens callouts : List ℕ) where
 
   -- ---- a listing is model's
 
+  -- a call over the rota that gives a plan, and the lister that it leaves
+  gave : (c : ListCall) (e : Lister) → entry c ≡ e → Over n opens callouts c → exit c ≡ stored e (own e)
+  gave c e q o = left-as c e q ∙ ap (stored e) (answers-as c e q o)
+
   is-listing : (e : Lister) (calls : List ListCall) (l : List (List ℕ)) → ListingOf n opens callouts e calls l → IsListing own e l
   is-listing e [] l i = absurd i
-  is-listing e (c ∷ calls) [] i = λ z. i .2 (ap (λ (x : PlanAnswer). x .code) (answers-as c e (i .0) (i .1)) ∙ z)
+  is-listing e (c ∷ calls) [] i = λ z. i .2 (rw (answers-as c e (i .0) (i .1)) z)
   is-listing e (c ∷ calls) (p ∷ l) i =
-      let q = answers-as c e (i .0) (i .1) in (
-        own-gives e (sym (ap (λ (x : PlanAnswer). x .code) q) ∙ i .2)
-            ∙ ap (λ x. given x 0) (sym (ap (λ (x : PlanAnswer). x .plan .slots) q) ∙ i .3),
-        subst (λ x. IsListing own x l) (left-as c e (i .0)
-            ∙ ap (stored e) q) (is-listing (exit c) calls l (i .4)),
-      )
+      let q = answers-as c e (i .0) (i .1) in
+      (rw (← i .3, q) (own-gives e (rw q at (i .2))), rw (gave c e (i .0) (i .1)) at (is-listing (exit c) calls l (i .4)))
 
   to-end : (e : Lister) (calls : List ListCall) (l : List (List ℕ)) → Alone n opens callouts e calls → length calls ≡ suc (length l) → IsListing own e l
       → ListingOf n opens callouts e calls l
   to-end e [] l a s i = absurd (omega arith)
-  to-end e (c ∷ calls) [] a s i = (a .0, a .1, λ z. i (sym (ap (λ (x : PlanAnswer). x .code) (answers-as c e (a .0) (a .1))) ∙ z))
+  to-end e (c ∷ calls) [] a s i = (a .0, a .1, λ z. i (rw (answers-as c e (a .0) (a .1)) at z))
   to-end e (c ∷ calls) (p ∷ l) a s i =
       let q = answers-as c e (a .0) (a .1) ∙ i .0 in
-      let next = left-as c e (a .0) ∙ ap (stored e) (answers-as c e (a .0) (a .1)) in
-      (a .0, a .1, ap (λ (x : PlanAnswer). x .code) q, ap (λ (x : PlanAnswer). x .plan .slots) q, to-end (exit c) calls l (a .2) (suc-inj s) (subst (λ x. IsListing own x l) (sym next) (i .1)))
+      (a .0, a .1, rw q, rw q, to-end (exit c) calls l (a .2) (suc-inj s) (rw (gave c e (a .0) (a .1)) (i .1)))
 
 -- the words that a usable call over the rota wrote
 usable-written : (n : ℕ) (opens : List ℕ) (n′ : ℕ) (o k old : List ℕ) → n′ ≡ n → o ≡ opens → usableCode n′ n′ o k (length old) ≡ 0

@@ -1,7 +1,5 @@
 mod Contracts
-mod Highest
 mod TestLaws
-mod Searched
 mod Definitions
 mod Outcomes
 pub mod Demand1

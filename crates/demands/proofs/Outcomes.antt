@@ -18,6 +18,7 @@ use Rattle.model.specs.Refusal.{orElse, unless}
 use Rattle.model.specs.Rota.{strayCallout, cellCode, tableCode}
 use Rattle.model.specs.Plans.{plans, isPlan, plansAfter}
 use Rattle.model.specs.Fewest.{fewest, fewestPlans}
+use Rattle.model.specs.Deficiency.{deficiency, deficientSet}
 use Rattle.model.specs.Count.{count, permanent}
 use Rattle.model.specs.Grade.{someForced, gradeOf, rotaGrade, rate, monthlyPrice}
 use Rattle.model.specs.PlanAnswers.{given, refused, short, overCap, noPlan, firstOf, firstFrom, firstAnswer, nextOf, nextFrom, nextAnswer, fewestOf, fewestFrom}
@@ -26,6 +27,7 @@ use Rattle.model.specs.Lister.{listerAnswer}
 use Rattle.model.specs.CountAnswers.{countCode}
 use Rattle.model.specs.PriceAnswers.{gradeRefused, gradeBy, gradeAnswer, priceRefused, priceBy, priceCode, priceAnswer}
 use Rattle.model.proofs.Refusals.{neither-refuses}
+use Rattle.model.proofs.Accepted.{tables-from}
 use Rattle.model.proofs.Permanent.{permanent-is-count}
 use Rattle.model.proofs.Fewest.{fewest-empty}
 use Rattle.demands.specs.Demand1.{Refused}
@@ -73,6 +75,9 @@ either : {A : Type 0} (P : A → Type 0) (b : Bool) {x y : A} → (b ≡ true �
 either P true f g = f refl
 either P false f g = g refl
 
+is-short : (n : ℕ) (opens callouts : List ℕ) → tableCode n n opens callouts ≡ 0 → plans n opens ≡ [] → IsShort opens (deficiency opens) (deficientSet opens)
+is-short n opens callouts ok = short-is n n opens callouts ok (tables-from n n opens callouts ok .few-items)
+
 -- ---- plans
 
 -- an answer for a plan: Good on success, Over of the number that comes with 11
@@ -85,37 +90,23 @@ pub record Says (opens : List ℕ) (Good : PlanAnswer → Type 0) (Over : ℕ �
 module _ {opens : List ℕ} {Good : PlanAnswer → Type 0} {Over : ℕ → Type 0} where
   says-refused : (c : ℕ) → c ≢ 8 → c < 10 → Says opens Good Over (refused (suc c))
   says-refused c h l =
-      record {
-        on-refusal = λ d. record { plan = refl; shortage = λ x. refl; items = λ x. refl; callouts = λ x. refl };
-        on-success = λ z. absurd (omega arith);
-        on-9 = λ z. absurd (h (omega arith));
-        on-11 = λ z. absurd (omega arith);
-      }
+      record { on-refusal = λ d. search refl; on-success = λ z. absurd (omega arith); on-9 = λ z. absurd (h (omega arith)); on-11 = λ z. absurd (omega arith) }
 
   low : (c : ℕ) → c < 7 → Says opens Good Over (refused (suc c))
   low c h = says-refused c (λ e. omega arith) (omega arith)
 
   says-given : {p : List ℕ} {k : ℕ} → Good (given p k) → Says opens Good Over (given p k)
-  says-given g =
-      record { on-refusal = λ d. absurd (d refl); on-success = λ z. g; on-9 = λ z. absurd (omega arith); on-11 = λ z. absurd (omega arith) }
+  says-given g = record { on-refusal = λ d. absurd (d refl); on-success = λ z. g; on-9 = λ z. absurd (omega arith); on-11 = λ z. absurd (omega arith) }
 
   says-short : {by set : ℕ} → IsShort opens by set → Says opens Good Over (short by set)
   says-short s =
-      record {
-        on-refusal = λ d. record { plan = refl; shortage = λ x. absurd (x refl); items = λ x. absurd (x refl); callouts = λ x. refl };
-        on-success = λ z. absurd (omega arith);
-        on-9 = λ z. s;
-        on-11 = λ z. absurd (omega arith);
-      }
+      let zeros : Refused (short _ _) = record { plan = refl; shortage = λ x. absurd (x refl); items = λ x. absurd (x refl); callouts = λ x. refl } in
+      record { on-refusal = λ d. zeros; on-success = λ z. absurd (omega arith); on-9 = λ z. s; on-11 = λ z. absurd (omega arith) }
 
   says-over : {k : ℕ} → Over k → Says opens Good Over (overCap k)
   says-over o =
-      record {
-        on-refusal = λ d. record { plan = refl; shortage = λ x. refl; items = λ x. refl; callouts = λ x. absurd (x refl) };
-        on-success = λ z. absurd (omega arith);
-        on-9 = λ z. absurd (omega arith);
-        on-11 = λ z. o;
-      }
+      let zeros : Refused (overCap _) = record { plan = refl; shortage = λ x. refl; items = λ x. refl; callouts = λ x. absurd (x refl) } in
+      record { on-refusal = λ d. zeros; on-success = λ z. absurd (omega arith); on-9 = λ z. absurd (omega arith); on-11 = λ z. o }
 
   weaker : {Good′ : PlanAnswer → Type 0} {a : PlanAnswer} → Says opens Good Over a → (Good a → Good′ a) → Says opens Good′ Over a
   weaker s f = record { on-refusal = s .on-refusal; on-success = λ z. f (s .on-success z); on-9 = s .on-9; on-11 = s .on-11 }
@@ -126,7 +117,7 @@ module _ (n : ℕ) (opens callouts : List ℕ) where
   unfolding firstAnswer firstFrom firstOf noPlan
   first-says =
       outcome (Says opens _ _) refused (tableCode n n opens callouts) (firstOf opens) (plans n opens) (table-low n opens callouts) low
-      (λ ok e. says-short (short-is n opens callouts ok e)) (λ ok p l e. says-given (first-is n opens callouts ok p l e, refl, refl, refl))
+      (λ ok e. says-short (is-short n opens callouts ok e)) (λ ok p l e. says-given (first-is n n opens callouts ok p l e, refl, refl, refl))
 
   pub next-says : (g : Plan) → Says opens (λ a. IsNext opens (g .slots) (a .plan .slots) × (a .shortage ≡ 0) × (a .items ≡ 0) × (a .callouts ≡ 0)) (λ k. ⊥)
       (nextAnswer n n opens callouts g)
@@ -137,7 +128,7 @@ module _ (n : ℕ) (opens callouts : List ℕ) where
       outcome (Says opens _ _) refused (tableCode n n opens callouts) (λ l. cond is (nextOf l) (refused 8)) (plansAfter n opens (g .slots))
       (table-low n opens callouts) low
       (λ ok e. either (Says opens _ _) is (λ y. says-refused 9 (λ e. omega arith) (omega arith)) no-plan)
-      (λ ok p l e. either (Says opens _ _) is (λ y. says-given (next-is n opens callouts ok (g .slots) p l e, refl, refl, refl)) no-plan)
+      (λ ok p l e. either (Says opens _ _) is (λ y. says-given (next-is n n opens callouts ok (g .slots) p l e, refl, refl, refl)) no-plan)
 
   -- fresh as the first plan, started as the next
   pub list-says : (e : Lister) → Says opens (λ a. (a .shortage ≡ 0) × (a .items ≡ 0) × (a .callouts ≡ 0)) (λ k. ⊥) (listerAnswer e n n opens callouts)
@@ -152,10 +143,10 @@ module _ (n : ℕ) (opens callouts : List ℕ) where
   unfolding fewestAnswer fewestFrom fewestOf noPlan
   fewest-says cap =
       let number = fewest n opens callouts in
-      outcome (Says opens _ _) refused (tableCode n n opens callouts) (fewestOf opens cap number) (fewestPlans n opens callouts) (table-low n opens callouts) low
-      (λ ok e. says-short (short-is n opens callouts ok (fewest-empty n opens callouts e)))
-      (λ ok p l e. either (Says opens _ _) (leb number cap) (λ y. says-given (fewest-is n opens callouts ok p l e, leb-true number cap y, refl, refl))
-      (λ y. says-over (is-fewest n opens callouts ok p l e)))
+      outcome (Says opens _ _) refused (tableCode n n opens callouts) (fewestOf opens cap number) (fewestPlans n opens callouts)
+      (table-low n opens callouts) low (λ ok e. says-short (is-short n opens callouts ok (fewest-empty n opens callouts e)))
+      (λ ok p l e. either (Says opens _ _) (leb number cap) (λ y. says-given (fewest-is n n opens callouts ok p l e, leb-true number cap y, refl, refl))
+      (λ y. says-over (is-fewest n n opens callouts ok p l e)))
 
 -- ---- grade and price
 
@@ -171,7 +162,7 @@ module _ (n : ℕ) (opens callouts : List ℕ) where
     where
       go : (f : List (List ℕ)) → fewestPlans n opens callouts ≡ f → IsFewest opens callouts (fewest n opens callouts)
       go [] q = absurd (nil≢cons (sym (fewest-empty n opens callouts q) ∙ e))
-      go (x ∷ f) q = is-fewest n opens callouts ok x f q
+      go (x ∷ f) q = is-fewest n n opens callouts ok x f q
 
   counted-tables : (words : ℕ) → countCode n n opens callouts words ≡ 0 → tableCode n n opens callouts ≡ 0
   unfolding countCode
@@ -188,7 +179,7 @@ module _ (n : ℕ) (opens callouts : List ℕ) where
   grade-says words =
       outcome GradeSays gradeRefused (countCode n n opens callouts words) (λ l. gradeBy opens (length l)) (plans n opens) (count-low n opens callouts words)
       (λ c h. (λ d. (refl, λ x. (refl, refl)), λ z. absurd (omega arith), λ z. absurd (omega arith)))
-      (λ ok e. (λ d. (refl, λ x. absurd (x refl)), λ z. absurd (omega arith), λ z. short-is n opens callouts (counted-tables words ok) e))
+      (λ ok e. (λ d. (refl, λ x. absurd (x refl)), λ z. absurd (omega arith), λ z. is-short n opens callouts (counted-tables words ok) e))
       (λ ok p l e. (λ d. absurd (d refl), λ z. (graded-is p l e, refl, refl), λ z. absurd (omega arith)))
 
   module _ (vehicles words : ℕ) where
@@ -202,9 +193,10 @@ module _ (n : ℕ) (opens callouts : List ℕ) where
     pub price-says : PriceSays (priceAnswer n n opens callouts vehicles words)
     unfolding priceAnswer priceCode priceBy monthlyPrice count
     price-says =
-        let tables : priceCode n n opens callouts vehicles words ≡ 0 → tableCode n n opens callouts ≡ 0 = λ z. counted-tables words (neither-refuses _ _ z .0) in
+        let tables : priceCode n n opens callouts vehicles words ≡ 0 → tableCode n n opens callouts ≡ 0 =
+        λ z. counted-tables words (neither-refuses _ _ z .0) in
         outcome PriceSays priceRefused (priceCode n n opens callouts vehicles words) (λ l. priceBy opens (length l) vehicles (fewest n opens callouts))
         (plans n opens) (price-low n opens callouts vehicles words)
         (λ c h. (λ d. (refl, λ x. (refl, refl)), λ z. absurd (omega arith), λ z. absurd (omega arith)))
-        (λ ok e. (λ d. (refl, λ x. absurd (x refl)), λ z. absurd (omega arith), λ z. short-is n opens callouts (tables ok) e))
+        (λ ok e. (λ d. (refl, λ x. absurd (x refl)), λ z. absurd (omega arith), λ z. is-short n opens callouts (tables ok) e))
         (λ ok p l e. (λ d. absurd (d refl), λ z. ((_, _, graded-is p l e, some-fewest (tables ok) p l e, refl), refl, refl), λ z. absurd (omega arith)))

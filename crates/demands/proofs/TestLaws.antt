@@ -3,8 +3,9 @@ use mathlib.Core.Path.{_≡_, refl, sym, ap, _∙_, subst}
 use mathlib.Core.Logic.{_⊎_, inl, inr, ⊎-elim}
 use mathlib.Core.Bool.{Bool, true, false, not, cond, _&&_, _||_, false≢true}
 use mathlib.Core.List.{List, [], _∷_}
-use Prim.Native.Nat.{ℕ, zero, suc, _-_, _^_, _≤_, _<_}
-use native.Mathlib.Nat.{lt-of-lt-of-le}
+use Prim.Native.Nat.{ℕ, zero, suc, _-_, _/_, _%_, _^_, _≤_, _<_}
+use native.Mathlib.Nat.{lt-of-lt-of-le, pow-suc}
+use native.Mathlib.Decide.{ℕ-discrete}
 use native.Mathlib.Omega.{arith}
 use borrow.Author.Tests.{eqb-true, eqb-false, ltb-true, ltb-false, leb-true, leb-false, not-false}
 use lib.Bits.{and-le-r}
@@ -12,14 +13,13 @@ use lib.Dec.{T, eqb, ltb, leb}
 use lib.ListN.{length, getD}
 use lib.Pow.{pow-mono}
 use Rattle.words.specs.Word.{bit, minus}
-use Rattle.words.proofs.Bits.{bit-lt, bit-high, bit-one-lt, bit-empty, bit-minus}
+use Rattle.words.proofs.Bits.{bit-zero, bit-suc, bit-lt, bit-high, bit-one-lt, bit-empty, bit-minus}
 use Rattle.model.specs.Lists.{any}
-use Rattle.model.specs.Refusal.{orElse, sizeCode, tallyCode, fleetCode, roomCode}
+use Rattle.model.specs.Refusal.{orElse, roomCode}
 use Rattle.model.specs.Rota.{strayCallout, cellCode, tableCode}
 use Rattle.model.specs.File.{blocksIn, itemsIn, opensIn, calloutsIn, checkWrong, blocksFor, blocksLaid, laidOut, fileCode}
 use Rattle.model.proofs.Members.{is-true, neither, any-from, any-none, place-of}
-use Rattle.demands.specs.Tests.{Test, FirstOf, test1, test2, test3, test4, test5, test6, test7, test12, test13, test14, test15, tables, fileTests}
-use Rattle.demands.proofs.Highest.{high-slot}
+use Rattle.demands.specs.Tests.{Test, FirstOf, test1, test2, test3, test4, test12, test13, test14, test15, tables, fileTests}
 
 -- ---- one test, made by a Bool
 
@@ -39,7 +39,7 @@ pub none-fits : FirstOf [] 0
 unfolding FirstOf
 none-fits = refl
 
-either : (a b : Bool) (P Q : Type 0) → Tells a P → Tells b Q → Tells (a || b) (P ⊎ Q)
+pub either : (a b : Bool) (P Q : Type 0) → Tells a P → Tells b Q → Tells (a || b) (P ⊎ Q)
 either true b P Q s t = record { yes-so = λ e. inl (s .yes-so refl); no-so = λ e. absurd (false≢true (sym e)) }
 either false b P Q s t = record { yes-so = λ e. inr (t .yes-so e); no-so = λ e. ⊎-elim (s .no-so refl) (t .no-so e) }
 
@@ -47,13 +47,26 @@ negated : (b : Bool) (P : Type 0) → Tells b P → Tells (not b) (P → ⊥)
 negated true P s = record { yes-so = λ e. absurd (false≢true e); no-so = λ e f. f (s .yes-so refl) }
 negated false P s = record { yes-so = λ e. s .no-so refl; no-so = λ e. absurd (false≢true (sym e)) }
 
-equals : (a b : ℕ) → Tells (eqb a b) (a ≡ b)
+pub equals : (a b : ℕ) → Tells (eqb a b) (a ≡ b)
 equals a b = record { yes-so = eqb-true a b; no-so = eqb-false a b }
 
-less : (a b : ℕ) → Tells (ltb a b) (a < b)
+pub less : (a b : ℕ) → Tells (ltb a b) (a < b)
 less a b = record { yes-so = ltb-true a b; no-so = λ e h. let l = ltb-false a b e in omega arith }
 
 -- ---- 3 and 4
+
+some-slot : (k w : ℕ) → w ≤ k → 0 < w → (j : ℕ) × (bit w j ≡ 1)
+some-slot zero w l h = absurd (omega arith)
+some-slot (suc k) w l h = go (some-slot k (w / 2)) (ℕ-discrete (w % 2) 1)
+  where
+    go : (w / 2 ≤ k → 0 < w / 2 → (j : ℕ) × (bit (w / 2) j ≡ 1)) → Dec (w % 2 ≡ 1) → (j : ℕ) × (bit w j ≡ 1)
+    go ih (yes e) = (0, bit-zero w ∙ e)
+    go ih (no d) = let r = ih (omega arith) (omega arith) in (suc (r .0), bit-suc w (r .0) ∙ r .1)
+
+-- a word that is 2 to the power m or more has a slot at m or above
+high-slot : (m w : ℕ) → 2 ^ m ≤ w → (j : ℕ) × (m ≤ j) × (bit w j ≡ 1)
+high-slot zero w h = let r = some-slot w w (omega arith) (omega arith) in (r .0, omega arith, r .1)
+high-slot (suc m) w h = let r = high-slot m (w / 2) (omega (arith, pow-suc 2 m)) in (suc (r .0), omega (arith, r .1), bit-suc w (r .0) ∙ r .2)
 
 module _ (m : ℕ) (opens : List ℕ) where
   says-3 : Tells (any (λ w. leb (2 ^ m) w) opens) (test3 m opens .given-when)
@@ -96,9 +109,8 @@ says-4 [] callouts range = record { yes-so = λ e. absurd (false≢true e); no-s
 says-4 (w ∷ opens) [] range = record { yes-so = λ e. absurd (false≢true e); no-so = λ e x. omega (arith, bit-empty (x .1), x .4) }
 says-4 (w ∷ opens) (c ∷ callouts) range =
     same-as
-    (either (not (eqb (minus c w) 0)) (strayCallout opens callouts) _ _ (says-stray c w (range 0 (omega arith))) (says-4 opens callouts (λ i h. range (suc i) (omega arith))))
-    (⊎-elim (λ x. (0, x .0, omega arith, x .1, x .2, x .3)) (λ x. (suc (x .0), x .1, omega (arith, x .2), x .3, x .4, x .5)))
-    back
+    (either _ (strayCallout opens callouts) _ _ (says-stray c w (range 0 (omega arith))) (says-4 opens callouts (λ i h. range (suc i) (omega arith))))
+    (⊎-elim (λ x. (0, x .0, omega arith, x .1, x .2, x .3)) (λ x. (suc (x .0), x .1, omega (arith, x .2), x .3, x .4, x .5))) back
   where
     back : test4 (w ∷ opens) (c ∷ callouts) .given-when → ((j : ℕ) × (j < 64) × (bit c j ≡ 1) × (bit w j ≡ 0)) ⊎ test4 opens callouts .given-when
     back (zero, j, h, l, b, o) = inl (j, l, b, o)
@@ -130,7 +142,7 @@ module _ (m : ℕ) (opens callouts : List ℕ) (slots : m ≤ 64) (others : List
       → FirstOf (test3 m opens ∷ test4 opens callouts ∷ others) (orElse (cellCode m opens callouts) later)
   unfolding cellCode orElse
   cells-first f =
-      first-of (test3 m opens) (test4 opens callouts ∷ others) 2 (any (λ w. leb (2 ^ m) w) opens) _ later refl (says-3 m opens) (λ a.
+      first-of (test3 m opens) _ 2 (any (λ w. leb (2 ^ m) w) opens) _ later refl (says-3 m opens) (λ a.
       let range : (i : ℕ) → i < length opens → getD opens i 0 < 2 ^ 64 =
       λ i h. lt-of-lt-of-le (leb-false (2 ^ m) (getD opens i 0) (any-none (λ w. leb (2 ^ m) w) 0 opens a i h)) (pow-mono slots) in
       first-of (test4 opens callouts) others 3 (strayCallout opens callouts) 0 later refl (says-4 opens callouts range) (λ b. f (rw (a, b))))
@@ -161,22 +173,12 @@ file-first file others later f =
 
 -- ---- 5, 6, 7 and 15
 
-module _ (others : List Test) (later : ℕ) where
-  pub size-first : (n : ℕ) → (sizeCode n ≡ 0 → FirstOf others later) → FirstOf (test5 n ∷ others) (orElse (sizeCode n) later)
-  unfolding orElse
-  size-first n f = first-of (test5 n) others 4 (ltb 20 n) 0 later refl (less 20 n) (λ a. f (rw a))
+-- one test, then others
+pub test-first : (t : Test) (c : ℕ) (b : Bool) → t .number ≡ suc c → Tells b (t .given-when) → (others : List Test) (later : ℕ)
+    → (cond b (suc c) 0 ≡ 0 → FirstOf others later) → FirstOf (t ∷ others) (orElse (cond b (suc c) 0) later)
+unfolding orElse
+test-first t c b e s others later f = first-of t others c b 0 later e s (λ a. f (rw a))
 
-  pub tally-first : (n : ℕ) (tally : List ℕ) → (tallyCode n (length tally) ≡ 0 → FirstOf others later)
-      → FirstOf (test6 n tally ∷ others) (orElse (tallyCode n (length tally)) later)
-  unfolding orElse
-  tally-first n tally f = first-of (test6 n tally) others 5 (ltb (length tally) (2 ^ n)) 0 later refl (less (length tally) (2 ^ n)) (λ a. f (rw a))
-
-  pub fleet-first : (vehicles : ℕ) → (fleetCode vehicles ≡ 0 → FirstOf others later) → FirstOf (test7 vehicles ∷ others) (orElse (fleetCode vehicles) later)
-  unfolding orElse
-  fleet-first vehicles f =
-      first-of (test7 vehicles) others 6 (eqb vehicles 0 || ltb 10000 vehicles) 0 later refl (either _ _ _ _ (equals vehicles 0) (less 10000 vehicles)) (λ a. f (rw a))
-
-  pub room-first : (output : List ℕ) (wanted : ℕ) → (roomCode (length output) wanted ≡ 0 → FirstOf others later)
-      → FirstOf (test15 output wanted ∷ others) (orElse (roomCode (length output) wanted) later)
-  unfolding orElse
-  room-first output wanted f = first-of (test15 output wanted) others 14 (ltb (length output) wanted) 0 later refl (less (length output) wanted) (λ a. f (rw a))
+pub room-first : (others : List Test) (later : ℕ) (output : List ℕ) (wanted : ℕ) → (roomCode (length output) wanted ≡ 0 → FirstOf others later)
+    → FirstOf (test15 output wanted ∷ others) (orElse (roomCode (length output) wanted) later)
+room-first others later output wanted = test-first (test15 output wanted) 14 _ refl (less (length output) wanted) others later
