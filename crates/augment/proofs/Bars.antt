@@ -48,7 +48,7 @@ module _ (w o p : List ℕ) (f : ℕ) (T : Table w o p f) (q : List ℕ) (Q : Is
         let j = at q y in
         let jt : 1 ≤ bit t j = omega (arith, S .shut k h (in-t k z) (not-fixed k z) j (slot-lt y (item k h z)), Q .open-cell y (item k h z)) in
         let jk : bit fixed j ≡ 0 = same-or (bit fixed j) 0 (λ e. e) (λ n. absurd (not-own j k h z (omega (arith, bit-lt fixed j)) refl)) in
-        omega (arith, bit-lt t k, except-other a x y (exposed-other w o p f T x E k h (S .held k h (in-t k z))))
+        omega (arith, bit-lt t k, except-other a x y (exposed-other T x E k h (S .held k h (in-t k z))))
       where
         -- a fixed slot is its own holder's
         not-own : (j k : ℕ) → k < 64 → u k ≢ 0 → bit fixed j ≡ 1 → j ≡ at q (own o k) → ⊥
@@ -56,13 +56,13 @@ module _ (w o p : List ℕ) (f : ℕ) (T : Table w o p f) (q : List ℕ) (Q : Is
             let g : j < 64 = omega (arith, slot-lt (own o k) (item k h z)) in
             let held : bit f j ≡ 0 = S .held j g (omega (arith, S .has-fixed j g, bit-lt t j)) in
             let same : own o j ≡ own o k = Q .once (own o j) (own o k) (T .item j g held) (item k h z) (A j g b ∙ e) in
-            let l : k ≡ j = once w o p f T k j h g (S .held k h (in-t k z)) held (sym same) in
+            let l : k ≡ j = once T k j h g (S .held k h (in-t k z)) held (sym same) in
             omega (arith, not-fixed k z, ap (bit fixed) l)
 
     pub barred : bit t (at q x) ≡ 0
     barred =
         let there = sum-injection 64 (length w) u (except a x) (own o) item moves
-        (λ i k h g y z e. once w o p f T i k h g (S .held i h (in-t i y)) (S .held k g (in-t k z)) e) in
+        (λ i k h g y z e. once T i k h g (S .held i h (in-t i y)) (S .held k g (in-t k z)) e) in
         let back = sum-injection (length w) 64 a u (at q) (λ i h z. slot-lt i h) (λ i h z. omega arith) (λ i k h g y z e. Q .once i k h g e) in
         let none : u (at q x) ≡ 0 = omega (arith, there, back, sum-except a (length w) x known) in
         same-or (bit fixed (at q x)) 0
@@ -72,4 +72,4 @@ module _ (w o p : List ℕ) (f : ℕ) (T : Table w o p f) (q : List ℕ) (Q : Is
         let h = slot-lt x known in
         let b : bit fixed k ≡ 1 = omega (arith, bit-lt fixed k) in
         let held : bit f k ≡ 0 = S .held k h (omega (arith, S .has-fixed k h, bit-lt t k)) in
-        absurd (exposed-other w o p f T x E k h held (Q .once (own o k) x (T .item k h held) known (A k h b))))
+        absurd (exposed-other T x E k h held (Q .once (own o k) x (T .item k h held) known (A k h b))))

@@ -1,6 +1,5 @@
 -- Complete tables: their slots are a plan, and an item that leaves its slot and takes another keeps them complete. Assumes nothing.
 use mathlib.Core.Path.{_≡_, sym, ap, _∙_, subst}
-use mathlib.Core.Logic.{_≢_}
 use mathlib.Core.List.{List}
 use Prim.Native.Nat.{ℕ, _<_}
 use lib.ListN.{length}
@@ -8,7 +7,7 @@ use Rattle.words.specs.Word.{with}
 use Rattle.model.specs.Plans.{IsPlan}
 use Rattle.augment.specs.Table.{own, at, cell, Table, Matched, Exposed, Complete}
 use Rattle.augment.specs.Search.{Assigned}
-use Rattle.augment.proofs.Moves.{same-or, release-table, release-exposed, release-stay}
+use Rattle.augment.proofs.Moves.{same-or, Released, release}
 
 module _ (w o p : List ℕ) (f : ℕ) (C : Complete w o p f) where
   pub complete-plan : IsPlan w p
@@ -28,19 +27,19 @@ module _ (w o p : List ℕ) (f : ℕ) (C : Complete w o p f) where
     M : Matched o p f x
     M = C .all x h
 
+    left : Released w o p f (at p x)
+    left = release (C .table) (at p x) (M .slot) (M .held)
+
     pub leave-table : Table w o p (with f (at p x))
-    leave-table = release-table w o p f (C .table) (at p x) (M .slot) (M .held)
+    leave-table = left .table
 
     pub leave-exposed : Exposed o p (with f (at p x)) x
-    leave-exposed = subst (Exposed o p (with f (at p x))) (M .owns) (release-exposed w o p f (C .table) (at p x) (M .slot) (M .held))
-
-    leave-stay : (y : ℕ) → y < length w → y ≢ x → Matched o p (with f (at p x)) y
-    leave-stay y g d = release-stay w o p f (C .table) (at p x) (M .slot) (M .held) y (λ e. d (e ∙ M .owns)) (C .all y g)
+    leave-exposed = subst (Exposed o p (with f (at p x))) (M .owns) (left .exposed)
 
     -- and takes another
     pub take-complete : (cand fixed : ℕ) (o′ p′ : List ℕ) (f′ k : ℕ) → Assigned w o p (with f (at p x)) x cand fixed o′ p′ f′ k → Complete w o′ p′ f′
     take-complete cand fixed o′ p′ f′ k A =
         record {
           table = A .table;
-          all = λ y g. same-or y x (λ e. subst (Matched o′ p′ f′) (sym e) (A .holds)) (λ d. A .stay y (leave-stay y g d));
+          all = λ y g. same-or y x (λ e. rw e (A .holds)) (λ d. A .stay y (left .stay y (λ e. d (e ∙ M .owns)) (C .all y g)));
         }

@@ -21,7 +21,23 @@ same-or {A} k l f g = go (ℕ-discrete k l)
     go (yes e) = f e
     go (no d) = g d
 
-module _ (w o p : List ℕ) (f : ℕ) (T : Table w o p f) where
+-- slot k is free now
+pub record Released (w o p : List ℕ) (f k : ℕ) : Type 0 where
+  pub table : Table w o p (with f k)
+  pub exposed : Exposed o p (with f k) (own o k)
+  pub stay : (x : ℕ) → x ≢ own o k → Matched o p f x → Matched o p (with f k) x
+  pub new : (x : ℕ) → Matched o p (with f k) x → Matched o p f x
+
+-- item y holds slot h now
+pub record Taken (w o p : List ℕ) (f y h : ℕ) : Type 0 where
+  pub table : Table w (set o h y) (set p y h) (without f h)
+  pub slot : at (set p y h) y ≡ h
+  pub holds : Matched (set o h y) (set p y h) (without f h) y
+  pub kept : (l : ℕ) → l ≢ h → (bit (without f h) l ≡ bit f l) × (own (set o h y) l ≡ own o l)
+  pub stay : (x : ℕ) → Matched o p f x → Matched (set o h y) (set p y h) (without f h) x
+  pub new : (x : ℕ) → x ≢ y → Matched (set o h y) (set p y h) (without f h) x → Matched o p f x
+
+module _ {w o p : List ℕ} {f : ℕ} (T : Table w o p f) where
   -- a held slot's holder is matched
   pub holder-matched : (k : ℕ) → k < 64 → bit f k ≡ 0 → Matched o p f (own o k)
   holder-matched k h b =
@@ -36,15 +52,11 @@ module _ (w o p : List ℕ) (f : ℕ) (T : Table w o p f) where
   pub once : (k l : ℕ) → k < 64 → l < 64 → bit f k ≡ 0 → bit f l ≡ 0 → own o k ≡ own o l → k ≡ l
   once k l h g b d e = sym (T .back k h b) ∙ ap (at p) e ∙ T .back l g d
 
-  -- ---- slot k is released
-
-  module _ (k : ℕ) (h : k < 64) (b : bit f k ≡ 0) where
-    still : (l : ℕ) → bit (with f k) l ≡ 0 → bit f l ≡ 0
-    still l e = omega (arith, bit-with-le f k l)
-
-    pub release-table : Table w o p (with f k)
-    release-table =
-        record {
+  pub release : (k : ℕ) → k < 64 → bit f k ≡ 0 → Released w o p f k
+  release k h b =
+      let still : (l : ℕ) → bit (with f k) l ≡ 0 → bit f l ≡ 0 = λ l e. omega (arith, bit-with-le f k l) in
+      record {
+        table = record {
           few = T .few;
           range = T .range;
           owners = T .owners;
@@ -53,19 +65,12 @@ module _ (w o p : List ℕ) (f : ℕ) (T : Table w o p f) where
           open-cell = λ l g e. T .open-cell l g (still l e);
           back = λ l g e. T .back l g (still l e);
           zeros = T .zeros;
-        }
-
-    pub release-exposed : Exposed o p (with f k) (own o k)
-    release-exposed M = omega (arith, M .held, ap (bit (with f k)) (T .back k h b), bit-with f k)
-
-    pub release-stay : (x : ℕ) → x ≢ own o k → Matched o p f x → Matched o p (with f k) x
-    release-stay x d M =
-        record { slot = M .slot; held = bit-with-other f k (at p x) (λ e. d (sym (M .owns) ∙ ap (own o) e)) ∙ M .held; owns = M .owns }
-
-    pub release-new : (x : ℕ) → Matched o p (with f k) x → Matched o p f x
-    release-new x M = record { slot = M .slot; held = still (at p x) (M .held); owns = M .owns }
-
-  -- ---- item y takes slot h
+        };
+        exposed = λ M. omega (arith, M .held, ap (bit (with f k)) (T .back k h b), bit-with f k);
+        stay = λ x d M.
+            record { slot = M .slot; held = bit-with-other f k (at p x) (λ e. d (sym (M .owns) ∙ ap (own o) e)) ∙ M .held; owns = M .owns };
+        new = λ x M. record { slot = M .slot; held = still (at p x) (M .held); owns = M .owns };
+      }
 
   module _ (y h : ℕ) (known : y < length w) (E : Exposed o p f y) (g : h < 64) (b : bit f h ≡ 1) (may : cell w y h ≡ 1) where
     abbrev o₁ : List ℕ
@@ -80,57 +85,48 @@ module _ (w o p : List ℕ) (f : ℕ) (T : Table w o p f) where
     at-y : at p₁ y ≡ h
     at-y = getD-set-same p y h 0 (omega (arith, T .slots, T .few))
 
-    pub take-own : (l : ℕ) → l ≢ h → own o₁ l ≡ own o l
-    take-own l d = getD-set-other o h l y 0 d
+    own-other : (l : ℕ) → l ≢ h → own o₁ l ≡ own o l
+    own-other l d = getD-set-other o h l y 0 d
 
-    pub take-at : (x : ℕ) → x ≢ y → at p₁ x ≡ at p x
-    take-at x d = getD-set-other p y x h 0 d
-
-    pub take-free : (l : ℕ) → l ≢ h → bit (without f h) l ≡ bit f l
-    take-free l d = bit-without-other f h l d
+    at-other : (x : ℕ) → x ≢ y → at p₁ x ≡ at p x
+    at-other x d = getD-set-other p y x h 0 d
 
     -- a slot that is held afterwards is h, or was held before by another item
     by : {A : ℕ → Type 0} → A h → ((l : ℕ) → l < 64 → l ≢ h → bit f l ≡ 0 → A l) → (l : ℕ) → l < 64 → bit (without f h) l ≡ 0 → A l
-    by {A} a c l i e = same-or l h (λ q. subst A (sym q) a) (λ d. c l i d (sym (take-free l d) ∙ e))
+    by {A} a c l i e = same-or l h (λ q. subst A (sym q) a) (λ d. c l i d (sym (bit-without-other f h l d) ∙ e))
 
-    pub take-table : Table w o₁ p₁ (without f h)
-    take-table =
+    pub take : Taken w o p f y h
+    take =
         record {
-          few = T .few;
-          range = T .range;
-          owners = length-set o h y ∙ T .owners;
-          slots = length-set p y h ∙ T .slots;
-          item = by {A = λ l. own o₁ l < length w} (omega (arith, own-h)) (λ l i d e. omega (arith, take-own l d, T .item l i e));
-          open-cell = by {A = λ l. cell w (own o₁ l) l ≡ 1} (ap (λ x. cell w x h) own-h ∙ may)
-              (λ l i d e. ap (λ x. cell w x l) (take-own l d) ∙ T .open-cell l i e);
-          back = by {A = λ l. at p₁ (own o₁ l) ≡ l} (ap (at p₁) own-h ∙ at-y)
-              (λ l i d e. ap (at p₁) (take-own l d) ∙ take-at (own o l) (exposed-other y E l i e) ∙ T .back l i e);
-          zeros = λ x i j. take-at x (λ e. omega arith) ∙ T .zeros x i j;
-        }
-
-    pub take-slot : at p₁ y ≡ h
-    take-slot = at-y
-
-    pub take-holds : Matched o₁ p₁ (without f h) y
-    take-holds = record { slot = omega (arith, at-y); held = ap (bit (without f h)) at-y ∙ bit-without f h; owns = ap (own o₁) at-y ∙ own-h }
-
-    pub take-stay : (x : ℕ) → Matched o p f x → Matched o₁ p₁ (without f h) x
-    take-stay x M =
-        let d : x ≢ y = λ e. E (subst (Matched o p f) e M) in
-        let e = take-at x d in
-        let s : at p x ≢ h = λ q. omega (arith, M .held, ap (bit f) q) in
-        record {
-          slot = omega (arith, e, M .slot);
-          held = ap (bit (without f h)) e ∙ take-free (at p x) s ∙ M .held;
-          owns = ap (own o₁) e ∙ take-own (at p x) s ∙ M .owns;
-        }
-
-    pub take-new : (x : ℕ) → x ≢ y → Matched o₁ p₁ (without f h) x → Matched o p f x
-    take-new x d M =
-        let e = take-at x d in
-        let s : at p x ≢ h = λ q. d (sym (M .owns) ∙ ap (own o₁) (e ∙ q) ∙ own-h) in
-        record {
-          slot = omega (arith, e, M .slot);
-          held = sym (take-free (at p x) s) ∙ ap (bit (without f h)) (sym e) ∙ M .held;
-          owns = sym (take-own (at p x) s) ∙ ap (own o₁) (sym e) ∙ M .owns;
+          table = record {
+            few = T .few;
+            range = T .range;
+            owners = length-set o h y ∙ T .owners;
+            slots = length-set p y h ∙ T .slots;
+            item = by {A = λ l. own o₁ l < length w} (omega (arith, own-h)) (λ l i d e. omega (arith, own-other l d, T .item l i e));
+            open-cell = by {A = λ l. cell w (own o₁ l) l ≡ 1} (ap (λ x. cell w x h) own-h ∙ may)
+                (λ l i d e. ap (λ x. cell w x l) (own-other l d) ∙ T .open-cell l i e);
+            back = by {A = λ l. at p₁ (own o₁ l) ≡ l} (ap (at p₁) own-h ∙ at-y)
+                (λ l i d e. ap (at p₁) (own-other l d) ∙ at-other (own o l) (exposed-other y E l i e) ∙ T .back l i e);
+            zeros = λ x i j. at-other x (λ e. omega arith) ∙ T .zeros x i j;
+          };
+          slot = at-y;
+          holds = record { slot = omega (arith, at-y); held = ap (bit (without f h)) at-y ∙ bit-without f h; owns = ap (own o₁) at-y ∙ own-h };
+          kept = λ l d. (bit-without-other f h l d, own-other l d);
+          stay = λ x M.
+              let e = at-other x (λ q. E (subst (Matched o p f) q M)) in
+              let s : at p x ≢ h = λ q. omega (arith, M .held, ap (bit f) q) in
+              record {
+                slot = omega (arith, e, M .slot);
+                held = ap (bit (without f h)) e ∙ bit-without-other f h (at p x) s ∙ M .held;
+                owns = ap (own o₁) e ∙ own-other (at p x) s ∙ M .owns;
+              };
+          new = λ x d M.
+              let e = at-other x d in
+              let s : at p x ≢ h = λ q. d (sym (M .owns) ∙ ap (own o₁) (e ∙ q) ∙ own-h) in
+              record {
+                slot = omega (arith, e, M .slot);
+                held = sym (bit-without-other f h (at p x) s) ∙ ap (bit (without f h)) (sym e) ∙ M .held;
+                owns = sym (own-other (at p x) s) ∙ ap (own o₁) (sym e) ∙ M .owns;
+              };
         }

@@ -1,6 +1,7 @@
 pub mod Members
 pub mod Order
 pub mod Sets
+pub mod Walks
 pub mod Extremes
 pub mod Accepted
 pub mod Plans

@@ -2,47 +2,39 @@
 use Prim.Native.Nat.{_<_}
 use native.Mathlib.Omega.{arith}
 use borrow.Author.Needs.{needs}
-use Rattle.augment.proofs.Searches.{at-once-lt, at-once, assign-vacatable, assign-barred, assign-found}
+use Rattle.augment.proofs.Searches.{at-once, assign-vacatable, assign-barred, assign-found}
 use Rattle.augment.proofs.assign.Statement.{statement}
 use Rattle.augment.proofs.assign.Tie as tie
 
 slot-lt : (c : tie.After-lowest) → c .lowest .result < 64
-slot-lt c =
-    let s = c .before .before .before in
-    at-once-lt _ _ _ _ _ _ _ (s .pre) _ (search needs) (c .before .if1 .taken) (c .lowest .ensures)
+slot-lt c = at-once (c .before .before .before .pre) (search needs) (c .before .if1 .taken) (c .lowest .ensures) .below
 
 freed-lt : (c : tie.Else2) → c .before .before .vacate .result .at < 64
 freed-lt c = c .before .before .vacate .ensures .0 (c .if2 .left) .below
 
 returns : tie.Need-returns
 returns c =
-    let s = c .before .before .before .before in (
-      λ n. rw (c .without .ensures) (at-once _ _ _ _ _ _ _ (s .pre) _ (search needs) (c .before .before .if1 .taken) (c .before .lowest .ensures)),
-      λ e. absurd (omega (arith, slot-lt (c .before))),
+    let at-lowest = c .before in (
+      λ n. rw (c .without .ensures) (at-once (at-lowest .before .before .before .pre) (search needs) (at-lowest .before .if1 .taken) (at-lowest .lowest .ensures)),
+      λ e. absurd (omega (arith, slot-lt at-lowest)),
     )
 
-vacate-requires : tie.Need-vacate-requires
-vacate-requires c κs = assign-vacatable _ _ _ _ _ _ _ (c .before .before .before .before .pre) (c .before .before .if1 .left)
-
 returns-2 : tie.Need-returns-2
-returns-2 c = (
-  λ n. absurd (n (c .if2 .taken)),
-  λ e.
-      let r = c .before .before .vacate .ensures .1 e in
-      (r .0, assign-barred _ _ _ _ _ _ _ (c .before .before .before .before .before .before .before .pre) _ (r .1)),
-)
+returns-2 c =
+    let at-vacate = c .before .before in (
+      λ n. absurd (n (c .if2 .taken)),
+      λ e. let r = at-vacate .vacate .ensures .1 e in (r .0, assign-barred (at-vacate .before .before .before .before .before .pre) (r .1)),
+    )
 
 returns-3 : tie.Need-returns-3
-returns-3 c = (
-  λ n.
-      rw (c .without2 .ensures)
-      (assign-found _ _ _ _ _ _ _ (c .before .before .before .before .before .before .before .before .pre) _ _ _ _
-      (c .before .before .before .vacate .ensures .0 (c .before .if2 .left))),
-  λ e. absurd (omega (arith, freed-lt (c .before))),
-)
+returns-3 c =
+    let at-vacate = c .before .before .before in (
+      λ n. rw (c .without2 .ensures) (assign-found (at-vacate .before .before .before .before .before .pre) (at-vacate .vacate .ensures .0 (c .before .if2 .left))),
+      λ e. absurd (omega (arith, freed-lt (c .before))),
+    )
 
 pub assign-spec : {M : Type 1} → statement M
 assign-spec =
     tie.close (tie.spec (λ c κs. search needs) (λ c. search needs) (λ c. slot-lt c) (λ c. omega (arith, slot-lt c)) (λ c. search needs) (λ c κs. slot-lt c)
-    returns vacate-requires returns-2 (λ c. search needs) (λ c. freed-lt c) (λ c. omega (arith, freed-lt c)) (λ c. search needs) (λ c κs. freed-lt c)
-    returns-3)
+    returns (λ c κs. assign-vacatable (c .before .before .before .before .pre) (c .before .before .if1 .left)) returns-2 (λ c. search needs) (λ c. freed-lt c)
+    (λ c. omega (arith, freed-lt c)) (λ c. search needs) (λ c κs. freed-lt c) returns-3)

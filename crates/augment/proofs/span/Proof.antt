@@ -1,15 +1,18 @@
--- `augment::span` meets its contract: the slots visited, with what those that are left bring, make the span. Assumes nothing.
+-- `augment::span` meets its contract: each turn adds the slots open to one slot's holder. Assumes nothing.
+use mathlib.Core.Path.{_∙_}
 use native.Mathlib.Omega.{arith}
 use borrow.Author.Needs.{needs}
-use lib.Bits.{bitOr}
-use lib.ListN.{length, getD}
+use lib.Bits.{or-zero-l}
+use lib.ListN.{length}
 use Prim.Native.Nat.{_<_}
-use Rattle.augment.proofs.Spans.{Spanning, spanning-start, spanning-slot, spanning-item, spanning-turn, spanning-end}
+use Rattle.model.proofs.Walks.{Joining, joining-start, joining-turn, joining-end}
+use Rattle.augment.specs.Table.{span}
+use Rattle.augment.proofs.Spans.{held-open}
 use Rattle.augment.proofs.span.Statement.{statement}
 use Rattle.augment.proofs.span.Tie as tie
 
 abbrev Inv-loop : tie.InvT-loop
-Inv-loop opens owner set all₀ left₀ all left = Spanning opens owner set all left
+Inv-loop opens owner set all₀ left₀ all left = Joining (held-open opens owner) 64 0 set all left
 
 abbrev μ-loop : tie.MeasureT-loop
 μ-loop opens owner set all₀ left₀ all left = left
@@ -19,28 +22,28 @@ start c = c .before .before
 
 item : (c : tie.After-holder Inv-loop μ-loop) → c .holder .result < length (start (c .before .before .before) .args .opens .now)
 item c =
-    let l = c .before .before .before in
-    spanning-item _ _ _ (start l .pre) _ _ _ (l .loop .inv) (c .before .before .loop-test .taken) (c .before .lowest .ensures) _ (c .holder .ensures)
-
-turned : (c : tie.After-shared-slice-known2 Inv-loop μ-loop)
-    → let l = c .before .before .before .before .before in let a = start l .args in
-    (c .before .without-lowest .result < l .loop .left)
-    × Spanning (a .opens .now) (a .owner .now) (a .set) (bitOr (l .loop .all) (getD (a .opens .now) (c .before .before .holder .result) 0)) (c .before .without-lowest .result)
-turned c =
-    let l = c .before .before .before .before .before in
-    spanning-turn _ _ _ (start l .pre) _ _ _ (l .loop .inv) (c .before .before .before .before .loop-test .taken) (c .before .before .before .lowest .ensures) _ _
-    (c .before .before .holder .ensures) (c .before .without-lowest .ensures)
-
-holder-requires : tie.Need-holder-requires Inv-loop μ-loop
-holder-requires c κs =
-    let l = c .before .before in
-    (start l .pre .owners, spanning-slot _ _ _ (start l .pre) _ _ _ (l .loop .inv) (c .before .loop-test .taken) (c .lowest .ensures))
+    let at-loop = c .before .before .before in
+    let turn = joining-turn (at-loop .loop .inv) (c .before .before .loop-test .taken) in
+    rw (c .holder .ensures, c .before .lowest .ensures) (start at-loop .pre .item _ (turn .below) (turn .from))
 
 returns : tie.Need-returns Inv-loop μ-loop
-returns c = spanning-end _ _ _ (start (c .before) .pre) _ _ (c .before .loop .inv) (c .loop-test .left)
+unfolding span
+returns c = joining-end (c .before .loop .inv) (c .loop-test .left) ∙ or-zero-l _
 
 pub span-spec : {M : Type 1} → statement M
 span-spec =
-    tie.close (tie.spec Inv-loop μ-loop (λ c. spanning-start _ _ _ (c .before .pre) (search needs)) (λ c κs. search needs) holder-requires
-    (λ c κs. c .before .before .loop-test .taken) (λ c. omega (arith, item (c .before), start (c .before .before .before .before) .pre .few))
-    (λ c. item (c .before .before)) (λ c. turned c .0) (λ c. turned c .1) returns)
+    tie.close (tie.spec Inv-loop μ-loop
+    (λ c. let O = c .before .pre in joining-start (omega arith) (search needs) (search needs) (λ k h b. O .range _ (O .item k h b)))
+    (λ c κs. search needs)
+    (λ c κs. rw (c .lowest .ensures) (start (c .before .before) .pre .owners, joining-turn (c .before .before .loop .inv) (c .before .loop-test .taken) .below))
+    (λ c κs. c .before .before .loop-test .taken)
+    (λ c. omega (arith, item (c .before), start (c .before .before .before .before) .pre .few))
+    (λ c. item (c .before .before))
+    (λ c.
+    let at-turn = c .before .before .before .before in
+    rw (c .before .without-lowest .ensures) (joining-turn (at-turn .before .loop .inv) (at-turn .loop-test .taken) .less))
+    (λ c.
+    let at-turn = c .before .before .before .before in
+    rw (c .before .without-lowest .ensures, c .before .before .holder .ensures, c .before .before .before .lowest .ensures)
+    (joining-turn (at-turn .before .loop .inv) (at-turn .loop-test .taken) .next))
+    returns)
