@@ -111,7 +111,7 @@ module _ {w o : List ℕ} {f : ℕ} {a : List ℕ} {rest path set out : ℕ} (K 
             r .holds .slot ∙ same-or (r .at) j (λ q. q) (λ d. absurd (omega (arith, r .holds .from, bit-single-other j (r .at) d))),
           ))
           (λ r. absurd (not-barred (r .0) (r .2)))
-          (assign-or w o p f′ x (2 ^ j) 0 (pow-lt h) (omega arith) assignable)
+          (assign-or (pow-lt h) (omega arith) assignable)
 
     word : allowedWord 64 w x ≡ bitAnd (getD w x 0) set
     word =
@@ -145,7 +145,7 @@ module _ {w o : List ℕ} {f : ℕ} {a : List ℕ} {rest path set out : ℕ} (K 
                 (λ d.
                 let q : bit rest k ≡ 0 = omega (arith, rb k h, bit-lt set k) in
                 N .off (own o k) (λ i g c same.
-                let y = once w o p f T i k g h (omega (arith, held i g)) e same in
+                let y = once T i k g h (omega (arith, held i g)) e same in
                 omega (arith, ap (bit rest) y, P .inside i g, held i g))
                 ∙ F .word k h q e);
             zeros = λ x h g. N .off x (λ i j c same. omega (arith, finish-owners .item i j c)) ∙ F .zeros x h g;

@@ -3,22 +3,21 @@
 use mathlib.Core.Path.{_≡_, refl, sym, ap, ap₂, _∙_, subst}
 use mathlib.Core.Logic.{_≢_}
 use mathlib.Core.List.{List}
-use Prim.Native.Nat.{ℕ, _+_, _-_, _^_, _≤_, _<_, max}
+use Prim.Native.Nat.{ℕ, _+_, _-_, _^_, _≤_, _<_}
 use native.Mathlib.Nat.{le-antisymm, lt-of-lt-of-le}
 use native.Mathlib.Omega.{arith}
 use lib.Bits.{bitAnd, bitOr, and-lt, or-lt}
 use lib.Count.{ones, ones-le}
 use lib.ListN.{length, getD}
 use lib.Pow.{pow-mono, pow-pos}
-use Rattle.words.specs.Word.{bit, without, minus, with, lowest}
-use Rattle.words.proofs.Bits.{ext, bit-lt, bit-empty, bit-and, bit-or, bit-minus, with-lt}
-use Rattle.words.proofs.SetLaws.{ones-or-and, ones-minus, ones-none, ones-subset, subset-eq, empty, minus-le, bit-with-max}
-use Rattle.words.proofs.Walk.{Walk, Turn, walk, turn}
+use Rattle.words.specs.Word.{bit, minus}
+use Rattle.words.proofs.Bits.{bit-lt, bit-empty, bit-and, bit-or, bit-minus}
+use Rattle.words.proofs.SetLaws.{ones-or-and, ones-minus, ones-none, ones-subset, subset-eq, empty, minus-le}
 use Rattle.model.specs.Plans.{IsPlan}
 use Rattle.model.specs.PlanAnswers.{short, noPlan}
 use Rattle.model.specs.Deficiency.{neighbours, shortBy, deficiency, deficientSet}
 use Rattle.model.specs.Sets.{image}
-use Rattle.model.proofs.Sets.{image-into, image-from, image-lt, ones-image, image-pick}
+use Rattle.model.proofs.Sets.{image-into, image-from, image-lt, ones-image}
 use Rattle.model.proofs.Deficiency.{neighbours-into, neighbours-from, neighbours-lt, plan-none-short, deficiency-by, deficient-set-by}
 use Rattle.augment.specs.Table.{own, at, cell, Matched, Complete}
 use Rattle.augment.specs.Search.{Within}
@@ -62,7 +61,7 @@ module _ (w o p : List ℕ) (f e d : ℕ) (F : Filled w o p f e d) where
   apart x = same-or (bit y x) 1
       (λ b.
       let r = holders-from x b in
-      let z : bit e x ≢ 1 = λ c. exposed-other w o p f (F .table) x (F .exposed x c) (r .0) (r .1) (F .dead .held (r .0) (r .1) (r .2)) (r .3) in
+      let z : bit e x ≢ 1 = λ c. exposed-other (F .table) x (F .exposed x c) (r .0) (r .1) (F .dead .held (r .0) (r .1) (r .2)) (r .3) in
       omega (arith, bit-lt e x))
       (λ m. omega (arith, bit-lt e x, bit-lt y x))
 
@@ -95,13 +94,13 @@ module _ (w o p : List ℕ) (f e d : ℕ) (F : Filled w o p f e d) where
   unfolding holders
   deficient-holder k h b =
       let x = own o k in
-      let none : bit e x ≢ 1 = λ c. exposed-other w o p f (F .table) x (F .exposed x c) k h b refl in
+      let none : bit e x ≢ 1 = λ c. exposed-other (F .table) x (F .exposed x c) k h b refl in
       same-or (bit d k) 1
       (λ c. omega (arith, bit-or e y x, bit-lt e x, image-into (own o) 64 d k h c))
       (λ m. same-or (bit y x) 1
       (λ c.
       let r = holders-from x c in
-      let q = once w o p f (F .table) (r .0) k (r .1) h (F .dead .held (r .0) (r .1) (r .2)) b (r .3) in
+      let q = once (F .table) (r .0) k (r .1) h (F .dead .held (r .0) (r .1) (r .2)) b (r .3) in
       absurd (omega (arith, r .2, ap (bit d) q)))
       (λ c. omega (arith, bit-or e y x, bit-lt e x, bit-lt y x, bit-lt d k)))
 
@@ -229,48 +228,3 @@ module _ (w o p : List ℕ) (f e d : ℕ) (F : Filled w o p f e d) where
 
   pub none-exposed-complete : e ≡ 0 → Complete w o p f
   none-exposed-complete z = record { table = F .table; all = λ x h. F .matched x h (ap (λ v. bit v x) z ∙ bit-empty x) }
-
--- ---- the loop of `deficient_set`
-
-pub record Gathering (o : List ℕ) (e d all left : ℕ) : Type 0 where
-  pub walk : Walk d left
-  pub fits : all < 2 ^ 64
-  pub whole : (x : ℕ) → max (bit all x) (bit (holders o left) x) ≡ bit (bitOr e (holders o d)) x
-
-module _ (o : List ℕ) (e d : ℕ) (items : (k : ℕ) → k < 64 → bit d k ≡ 1 → own o k < 64) where
-  pub gathering-start : e < 2 ^ 64 → d < 2 ^ 64 → Gathering o e d e d
-  gathering-start he hd = record { walk = walk d hd; fits = he; whole = λ x. sym (bit-or e (holders o d) x) }
-
-  pub gathering-end : (all left : ℕ) → e < 2 ^ 64 → Gathering o e d all left → left ≡ 0 → all ≡ bitOr e (holders o d)
-  unfolding holders
-  gathering-end all left he G z =
-      ext 64 all (bitOr e (holders o d)) (G .fits) (or-lt 64 e (holders o d) he (image-lt (own o) 64 d 64 items))
-      (λ x h. omega (arith, G .whole x, none x))
-    where
-      none : (x : ℕ) → bit (holders o left) x ≡ 0
-      none x = same-or (bit (holders o left) x) 1
-          (λ b. let r = image-from (own o) 64 left x b in absurd (omega (arith, r .2, ap (λ v. bit v (r .0)) z, bit-empty (r .0))))
-          (λ m. omega (arith, bit-lt (holders o left) x))
-
-  module _ (all left k : ℕ) (G : Gathering o e d all left) (z : left ≢ 0) (ek : k ≡ lowest left) where
-    visit : Turn d left k
-    visit = subst (Turn d left) (sym ek) (turn d left (G .walk) z)
-
-    pub gathering-slot : k < 64
-    gathering-slot = visit .below
-
-    pub gathering-item : (h : ℕ) → h ≡ own o k → h < 64
-    gathering-item h eh = rw eh (items k (visit .below) (visit .from))
-
-    pub gathering-turn : (h rest more : ℕ) → h ≡ own o k → rest ≡ without left (lowest left) → more ≡ with all h → (rest < left) × Gathering o e d more rest
-    unfolding holders
-    gathering-turn h rest more eh er em =
-        let r : rest ≡ without left k = er ∙ ap (without left) (sym ek) in
-        rw (r, em, eh) (
-          visit .less,
-          record {
-            walk = visit .next;
-            fits = with-lt 64 all (own o k) (G .fits) (items k (visit .below) (visit .from));
-            whole = λ x. omega (arith, G .whole x, bit-with-max all (own o k) x, image-pick (own o) 64 left k (visit .below) (visit .here) x);
-          },
-        )

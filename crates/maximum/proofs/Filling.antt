@@ -1,5 +1,5 @@
 -- The loop of `fill`: the items of e stay exposed, those of left are yet to be tried. Assumes nothing.
-use mathlib.Core.Path.{_≡_, refl, sym, ap, _∙_, subst}
+use mathlib.Core.Path.{_≡_, refl, sym, ap, _∙_}
 use mathlib.Core.Logic.{_≢_}
 use mathlib.Core.List.{List}
 use Prim.Native.Nat.{ℕ, _+_, _-_, _^_, _≤_, _<_, min}
@@ -27,8 +27,19 @@ pub record Filling (w : List ℕ) (wanting : ℕ) (o p : List ℕ) (f e d left :
   pub matched : (x : ℕ) → x < length w → bit e x ≡ 0 → bit left x ≡ 0 → Matched o p f x
   pub dead : Dead w o f e d
 
-pub filling-start : (w o p : List ℕ) (f wanting : ℕ) → wanting < 2 ^ 64 → Fillable w o p f wanting → Filling w wanting o p f 0 0 wanting
-filling-start w o p f wanting h F =
+-- a turn: x is the item, rest what is left
+pub record FillTurn (w : List ℕ) (wanting : ℕ) (o p : List ℕ) (f e d left x rest : ℕ) : Type 0 where
+  pub item : x < length w
+  pub less : rest < left
+  -- it is given one of its slots that are not dead, if there is one
+  pub assignable : {cand : ℕ} → cand ≡ minus (getD w x 0) d → Assignable w o p f x cand d
+  pub found : {cand : ℕ} {o′ p′ : List ℕ} {f′ k : ℕ} → Assigned w o p f x cand d o′ p′ f′ k → Filling w wanting o′ p′ f′ e d rest
+  pub none : {cand e′ : ℕ} → cand ≡ minus (getD w x 0) d → cand ≡ 0 → e′ ≡ with e x → Filling w wanting o p f e′ d rest
+  pub failed : {cand : ℕ} → cand ≡ minus (getD w x 0) d → {o′ p′ : List ℕ} {t e′ : ℕ} → t < 2 ^ 64 → e′ ≡ with e x
+      → Same o p o′ p′ × Barred w o f cand d t → Filling w wanting o′ p′ f e′ t rest
+
+pub filling-start : {w o p : List ℕ} {f wanting : ℕ} → wanting < 2 ^ 64 → Fillable w o p f wanting → Filling w wanting o p f 0 0 wanting
+filling-start {w} {wanting = wanting} h F =
     record {
       table = F .table;
       walk = walk wanting h;
@@ -47,70 +58,45 @@ filling-start w o p f wanting h F =
       };
     }
 
-pub filling-end : (w : List ℕ) (wanting : ℕ) (o p : List ℕ) (f e d left : ℕ) → Filling w wanting o p f e d left → left ≡ 0 → Filled w o p f e d
-filling-end w wanting o p f e d left F z =
-    record {
-      table = F .table;
-      items = F .exposed-items;
-      exposed = F .exposed;
-      matched = λ x h b. F .matched x h b (ap (λ y. bit y x) z ∙ bit-empty x);
-      dead = F .dead;
-    }
+module _ {w : List ℕ} {wanting : ℕ} {o p : List ℕ} {f e d left : ℕ} (F : Filling w wanting o p f e d left) where
+  pub filling-end : left ≡ 0 → Filled w o p f e d
+  filling-end z =
+      record {
+        table = F .table;
+        items = F .exposed-items;
+        exposed = F .exposed;
+        matched = λ x h b. F .matched x h b (ap (λ y. bit y x) z ∙ bit-empty x);
+        dead = F .dead;
+      }
 
--- a turn: x is the item, rest what is left, cand its slots that are not dead
-module _ (w : List ℕ) (wanting : ℕ) (o p : List ℕ) (f e d left x rest cand : ℕ) (F : Filling w wanting o p f e d left) (some : left ≢ 0) (ex : x ≡ lowest left)
-    (er : rest ≡ without left (lowest left)) where
-  visit : Turn wanting left x
-  visit = subst (Turn wanting left) (sym ex) (turn wanting left (F .walk) some)
+  module _ (some : left ≢ 0) where
+    abbrev x : ℕ
+    x = lowest left
 
-  pub filling-item : x < length w
-  filling-item = bit-one-lt (length w) wanting x (F .items) (visit .from)
+    abbrev rest : ℕ
+    rest = without left x
 
-  rest-is : rest ≡ without left x
-  rest-is = er ∙ ap (without left) (sym ex)
+    visit : Turn wanting left x
+    visit = turn wanting left (F .walk) some
 
-  pub filling-less : rest < left
-  filling-less = rw rest-is (visit .less)
+    item : x < length w
+    item = bit-one-lt (length w) wanting x (F .items) (visit .from)
 
-  next-walk : Walk wanting rest
-  next-walk = rw rest-is (visit .next)
+    -- an item that is left was left before, and is not x
+    left-before : (y : ℕ) → bit rest y ≡ 1 → (bit left y ≡ 1) × (y ≢ x)
+    left-before y b = (omega (arith, bit-without-le left x y, bit-lt left y), λ q. omega (arith, ap (bit rest) q, bit-without left x))
 
-  -- an item that is left was left before, and is not x
-  left-before : (y : ℕ) → bit rest y ≡ 1 → (bit left y ≡ 1) × (y ≢ x)
-  left-before y b = (
-    omega (arith, ap (λ z. bit z y) rest-is, bit-without-le left x y, bit-lt left y),
-    λ q. omega (arith, ap (λ z. bit z y) rest-is, ap (bit (without left x)) q, bit-without left x),
-  )
-
-  module _ (ec : cand ≡ minus (getD w x 0) d) where
-    in-cand : (k : ℕ) → k < 64 → bit cand k ≡ min (bit (getD w x 0) k) (1 - bit d k)
-    in-cand k h = ap (λ z. bit z k) ec ∙ bit-minus (getD w x 0) d k (F .dead .fits) h
-
-    pub filling-assignable : Assignable w o p f x cand d
-    filling-assignable =
-        record {
-          table = F .table;
-          known = filling-item;
-          exposed = F .waiting x (visit .here);
-          may = λ k h. omega (arith, in-cand k h);
-          held = F .dead .held;
-          apart = λ k h. omega (arith, in-cand k h, bit-lt (getD w x 0) k, bit-lt d k);
-        }
-
-    -- x holds slot k now
-    pub filling-found : (o′ p′ : List ℕ) (f′ k : ℕ) → Assigned w o p f x cand d o′ p′ f′ k → Filling w wanting o′ p′ f′ e d rest
-    filling-found o′ p′ f′ k A =
+    found : {cand : ℕ} {o′ p′ : List ℕ} {f′ k : ℕ} → Assigned w o p f x cand d o′ p′ f′ k → Filling w wanting o′ p′ f′ e d rest
+    found A =
         record {
           table = A .table;
-          walk = next-walk;
+          walk = visit .next;
           items = F .items;
           exposed-items = F .exposed-items;
-          apart = λ y. omega (arith, F .apart y, ap (λ z. bit z y) rest-is, bit-without-le left x y);
+          apart = λ y. omega (arith, F .apart y, bit-without-le left x y);
           exposed = λ y b M. F .exposed y b (A .new y (λ q. omega (arith, F .apart y, ap (bit left) q, visit .here)) M);
           waiting = λ y b M. let r = left-before y b in F .waiting y (r .0) (A .new y (r .1) M);
-          matched = λ y h b c. same-or y x
-              (λ q. subst (Matched o′ p′ f′) (sym q) (A .holds))
-              (λ n. A .stay y (F .matched y h b (sym (bit-without-other left x y n) ∙ ap (λ z. bit z y) (sym rest-is) ∙ c)));
+          matched = λ y h b c. same-or y x (λ q. rw q (A .holds)) (λ n. A .stay y (F .matched y h b (sym (bit-without-other left x y n) ∙ c)));
           dead = record {
             fits = F .dead .fits;
             held = λ l h b. A .kept l h b .0;
@@ -120,56 +106,75 @@ module _ (w : List ℕ) (wanting : ℕ) (o p : List ℕ) (f e d left x rest cand
           };
         }
 
-    -- x stays exposed; t are the dead slots now
-    stays : (t e′ : ℕ) → t < 2 ^ 64 → e′ ≡ with e x → Barred w o f cand d t → Filling w wanting o p f e′ t rest
-    stays t e′ ht ee B =
-        let ew : (y : ℕ) → bit e′ y ≡ bit (with e x) y = λ y. ap (λ z. bit z y) ee in
-        let old : (y : ℕ) → bit e y ≤ bit e′ y = λ y. omega (arith, ew y, bit-with-le e x y) in
-        record {
-          table = F .table;
-          walk = next-walk;
-          items = F .items;
-          exposed-items = rw ee (with-lt (length w) e x (F .exposed-items) filling-item);
-          apart = λ y. same-or y x
-              (λ q. omega (arith, ap (bit rest) q, ap (λ z. bit z x) rest-is, bit-without left x, bit-lt e′ y))
-              (λ n. omega (arith, ew y, bit-with-other e x y n, F .apart y, ap (λ z. bit z y) rest-is, bit-without-le left x y));
-          exposed = λ y b. same-or y x
-              (λ q. subst (Exposed o p f) (sym q) (F .waiting x (visit .here)))
-              (λ n. F .exposed y (sym (bit-with-other e x y n) ∙ sym (ew y) ∙ b));
-          waiting = λ y b. F .waiting y (left-before y b .0);
-          matched = λ y h b c. same-or y x
-              (λ q. absurd (omega (arith, ew y, ap (bit (with e x)) q, bit-with e x)))
-              (λ n. F .matched y h (omega (arith, old y)) (sym (bit-without-other left x y n) ∙ ap (λ z. bit z y) (sym rest-is) ∙ c));
-          dead = record {
-            fits = ht;
-            held = B .held;
-            shut = λ k h b. same-or (bit d k) 0
-                (λ z. B .shut k h b z)
-                (λ n l g. le-trans (F .dead .shut k h (omega (arith, bit-lt d k)) l g) (B .has-fixed l g));
-            all = λ y h b. same-or y x
-                (λ q l g. omega (arith, ap (λ z. bit (getD w z 0) l) q, in-cand l g, B .all l g, B .has-fixed l g, bit-lt (getD w x 0) l, bit-lt d l))
-                (λ n l g. le-trans (F .dead .all y h (sym (bit-with-other e x y n) ∙ sym (ew y) ∙ b) l g) (B .has-fixed l g));
-            least = λ g s c.
-                let dg = F .dead .least g (λ y h b. s y h (omega (arith, old y, bit-lt e′ y)))
-                (λ k h b q. c k h b (omega (arith, B .has-fixed k h, bit-lt t k))) in
-                B .least g dg (λ k h. le-trans (filling-assignable .may k h) (s x filling-item (ew x ∙ bit-with e x) k h)) (λ k h b q z. c k h b q);
-          };
-        }
+    module _ {cand : ℕ} (ec : cand ≡ minus (getD w x 0) d) where
+      in-cand : (k : ℕ) → k < 64 → bit cand k ≡ min (bit (getD w x 0) k) (1 - bit d k)
+      in-cand k h = rw ec (bit-minus (getD w x 0) d k (F .dead .fits) h)
 
-    -- all its slots are dead
-    pub filling-none : (e′ : ℕ) → cand ≡ 0 → e′ ≡ with e x → Filling w wanting o p f e′ d rest
-    filling-none e′ z ee =
-        stays d e′ (F .dead .fits) ee
+      assignable : Assignable w o p f x cand d
+      assignable =
+          record {
+            table = F .table;
+            known = item;
+            exposed = F .waiting x (visit .here);
+            may = λ k h. omega (arith, in-cand k h);
+            held = F .dead .held;
+            apart = λ k h. omega (arith, in-cand k h, bit-lt (getD w x 0) k, bit-lt d k);
+          }
+
+      -- x stays exposed; t are the dead slots now
+      stays : {t : ℕ} → t < 2 ^ 64 → Barred w o f cand d t → Filling w wanting o p f (with e x) t rest
+      stays {t} ht B =
+          record {
+            table = F .table;
+            walk = visit .next;
+            items = F .items;
+            exposed-items = with-lt (length w) e x (F .exposed-items) item;
+            apart = λ y. same-or y x
+                (λ q. omega (arith, ap (bit rest) q, bit-without left x, bit-lt (with e x) y))
+                (λ n. omega (arith, bit-with-other e x y n, F .apart y, bit-without-le left x y));
+            exposed = λ y b. same-or y x (λ q. rw q (F .waiting x (visit .here))) (λ n. F .exposed y (sym (bit-with-other e x y n) ∙ b));
+            waiting = λ y b. F .waiting y (left-before y b .0);
+            matched = λ y h b c. same-or y x
+                (λ q. absurd (omega (arith, ap (bit (with e x)) q, bit-with e x)))
+                (λ n. F .matched y h (omega (arith, bit-with-le e x y)) (sym (bit-without-other left x y n) ∙ c));
+            dead = record {
+              fits = ht;
+              held = B .held;
+              shut = λ k h b. same-or (bit d k) 0
+                  (B .shut k h b)
+                  (λ n l g. le-trans (F .dead .shut k h (omega (arith, bit-lt d k)) l g) (B .has-fixed l g));
+              all = λ y h b. same-or y x
+                  (λ q l g. omega (arith, ap (λ z. bit (getD w z 0) l) q, in-cand l g, B .all l g, B .has-fixed l g, bit-lt (getD w x 0) l, bit-lt d l))
+                  (λ n l g. le-trans (F .dead .all y h (sym (bit-with-other e x y n) ∙ b) l g) (B .has-fixed l g));
+              least = λ g s c.
+                  let dg = F .dead .least g (λ y h b. s y h (omega (arith, bit-with-le e x y, bit-lt (with e x) y)))
+                  (λ k h b q. c k h b (omega (arith, B .has-fixed k h, bit-lt t k))) in
+                  B .least g dg (λ k h. le-trans (assignable .may k h) (s x item (bit-with e x) k h)) (λ k h b q z. c k h b q);
+            };
+          }
+
+      -- all its slots are dead
+      all-dead : cand ≡ 0 → Barred w o f cand d d
+      all-dead z =
+          record {
+            has-fixed = λ k h. omega arith;
+            all = λ k h. omega (arith, ap (λ y. bit y k) z, bit-empty k);
+            held = F .dead .held;
+            shut = λ k h b n. absurd (omega arith);
+            least = λ g i a c. i;
+          }
+
+    pub filling-turn : {x′ rest′ : ℕ} → x′ ≡ x → rest′ ≡ rest → FillTurn w wanting o p f e d left x′ rest′
+    filling-turn ex er =
+        rw (ex, er)
         (record {
-          has-fixed = λ k h. omega arith;
-          all = λ k h. omega (arith, ap (λ y. bit y k) z, bit-empty k);
-          held = F .dead .held;
-          shut = λ k h b n. absurd (omega arith);
-          least = λ g i a c. i;
+          item = item;
+          less = visit .less;
+          assignable = assignable;
+          found = found;
+          none = λ ec z ee. rw ee (stays ec (F .dead .fits) (all-dead ec z));
+          failed = λ ec ht ee r. rw (ee, r .0 .owner, r .0 .slot) (stays ec ht (r .1));
         })
-
-    pub filling-failed : (o′ p′ : List ℕ) (t e′ : ℕ) → t < 2 ^ 64 → e′ ≡ with e x → Same o p o′ p′ × Barred w o f cand d t → Filling w wanting o′ p′ f e′ t rest
-    filling-failed o′ p′ t e′ ht ee r = rw (r .0 .owner, r .0 .slot) (stays t e′ ht ee (r .1))
 
 -- ---- no table yet
 

@@ -1,63 +1,16 @@
--- The loop of `neighbours`, and the cases of `refill`. Assumes nothing.
-use mathlib.Core.Path.{_≡_, sym, ap, _∙_, subst}
-use mathlib.Core.Logic.{_≢_}
+-- The cases of `refill`. Assumes nothing.
+use mathlib.Core.Path.{_≡_, ap, _∙_}
 use mathlib.Core.List.{List}
-use Prim.Native.Nat.{ℕ, _^_, _≤_, _<_, max}
+use Prim.Native.Nat.{ℕ, _^_, _<_, max}
 use native.Mathlib.Omega.{arith}
-use lib.Bits.{bitAnd, bitOr, or-lt}
-use lib.ListN.{length, getD}
-use Rattle.words.specs.Word.{bit, without, lowest}
-use Rattle.words.proofs.Bits.{bit-lt, bit-empty, bit-one-lt, bit-and, bit-or, bit-without-other, ext}
-use Rattle.words.proofs.Walk.{Walk, Turn, walk, turn}
+use lib.Bits.{bitAnd, bitOr}
+use Rattle.words.specs.Word.{bit}
+use Rattle.words.proofs.Bits.{bit-lt, bit-empty, bit-and, bit-or}
 use Rattle.model.specs.Deficiency.{neighbours}
-use Rattle.model.proofs.Deficiency.{neighbours-into, neighbours-from, neighbours-lt}
-use Rattle.augment.specs.Search.{Within, Vacatable, Vacated, Certificate}
+use Rattle.model.proofs.Deficiency.{neighbours-into, neighbours-from}
+use Rattle.augment.specs.Search.{Vacatable, Vacated, Certificate}
 use Rattle.augment.proofs.Moves.{same-or}
 use Rattle.maximum.specs.Maximum.{Fillable, Filled, Refillable}
-
--- ---- neighbours: `all` has the slots of the items that are not left
-
-pub record Nearing (w : List ℕ) (items all left : ℕ) : Type 0 where
-  pub walk : Walk items left
-  pub fits : all < 2 ^ 64
-  pub only : (k : ℕ) → bit all k ≤ bit (neighbours w items) k
-  pub passed : (x : ℕ) → x < length w → bit items x ≡ 1 → bit left x ≡ 0 → Within (getD w x 0) all
-
-module _ (w : List ℕ) (range : (x : ℕ) → x < length w → getD w x 0 < 2 ^ 64) (items : ℕ) (known : items < 2 ^ length w) where
-  pub nearing-start : items < 2 ^ 64 → Nearing w items 0 items
-  nearing-start h = record { walk = walk items h; fits = omega arith; only = λ k. omega (arith, bit-empty k); passed = λ x l b z. absurd (omega arith) }
-
-  pub nearing-end : (all left : ℕ) → Nearing w items all left → left ≡ 0 → all ≡ neighbours w items
-  nearing-end all left N z =
-      ext 64 all (neighbours w items) (N .fits) (neighbours-lt w 64 range items)
-      (λ k h. same-or (bit (neighbours w items) k) 1
-      (λ b.
-      let r = neighbours-from w items k b in
-      omega (arith, r .3, N .passed (r .0) (r .1) (r .2) (ap (λ v. bit v (r .0)) z ∙ bit-empty (r .0)) k h, bit-lt all k))
-      (λ m. omega (arith, N .only k, bit-lt (neighbours w items) k)))
-
-  module _ (all left x rest : ℕ) (N : Nearing w items all left) (some : left ≢ 0) (ex : x ≡ lowest left) (er : rest ≡ without left (lowest left)) where
-    visit : Turn items left x
-    visit = subst (Turn items left) (sym ex) (turn items left (N .walk) some)
-
-    pub nearing-item : x < length w
-    nearing-item = bit-one-lt (length w) items x known (visit .from)
-
-    pub nearing-turn : (rest < left) × Nearing w items (bitOr all (getD w x 0)) rest
-    nearing-turn =
-        rw (er ∙ ap (without left) (sym ex)) (
-          visit .less,
-          record {
-            walk = visit .next;
-            fits = or-lt 64 all (getD w x 0) (N .fits) (range x nearing-item);
-            only = λ k. omega (arith, bit-or all (getD w x 0) k, N .only k, neighbours-into w items x k nearing-item (visit .from));
-            passed = λ y h b z k g. same-or y x
-                (λ q. omega (arith, bit-or all (getD w x 0) k, ap (λ v. bit (getD w v 0) k) q))
-                (λ n. omega (arith, bit-or all (getD w x 0) k, N .passed y h b (sym (bit-without-other left x y n) ∙ z) k g));
-          },
-        )
-
--- ---- refill
 
 module _ {w o p : List ℕ} {f e d : ℕ} (R : Refillable w o p f e d) {near : ℕ} (en : near ≡ neighbours w e) where
   abbrev set : ℕ

@@ -1,42 +1,39 @@
 -- `maximum::neighbours` meets its contract: a turn adds the slots of the lowest item that is left. Assumes nothing.
+use mathlib.Core.Path.{_∙_}
 use native.Mathlib.Omega.{arith}
 use borrow.Author.Needs.{needs}
-use Prim.Native.Nat.{ℕ, _^_, _<_}
-use lib.Bits.{bitOr}
+use Prim.Native.Nat.{_<_}
+use lib.Bits.{or-zero-l}
 use lib.ListN.{length, getD}
-use Rattle.maximum.proofs.Refilling.{Nearing, nearing-start, nearing-end, nearing-item, nearing-turn}
+use Rattle.model.specs.Deficiency.{neighbours}
+use Rattle.model.proofs.Walks.{Joining, joining-start, joining-turn, joining-end}
 use Rattle.maximum.proofs.neighbours.Statement.{statement}
 use Rattle.maximum.proofs.neighbours.Tie as tie
 
 abbrev Inv-loop : tie.InvT-loop
-Inv-loop opens items all₀ left₀ all left = Nearing opens items all left
+Inv-loop opens items all₀ left₀ all left = Joining (λ x. getD opens x 0) (length opens) 0 items all left
 
 abbrev μ-loop : tie.MeasureT-loop
 μ-loop opens items all₀ left₀ all left = left
 
-range : (c : tie.After-shared-slice-known Inv-loop μ-loop) → (x : ℕ) → x < length (c .before .args .opens .now) → getD (c .before .args .opens .now) x 0 < 2 ^ 64
-range c x h = omega (arith, c .shared-slice-known .given x)
-
-item : (c : tie.After-without-lowest Inv-loop μ-loop) → c .before .lowest .result < length (c .before .before .before .before .before .args .opens .now)
-item c =
-    let l = c .before .before .before in
-    nearing-item _ (range (l .before)) _ (l .before .before .pre .1) _ _ _ _ (l .loop .inv) (c .before .before .loop-test .taken) (c .before .lowest .ensures)
-    (c .without-lowest .ensures)
-
-turned : (c : tie.After-shared-slice-known2 Inv-loop μ-loop)
-    → let v = c .before in let l = v .before .before .before in let a = l .before .before .args in
-    (v .without-lowest .result < l .loop .left) × Nearing (a .opens .now) (a .items) (bitOr (l .loop .all) (getD (a .opens .now) (v .before .lowest .result) 0)) (v .without-lowest .result)
-turned c =
-    let v = c .before in
-    let l = v .before .before .before in
-    nearing-turn _ (range (l .before)) _ (l .before .before .pre .1) _ _ _ _ (l .loop .inv) (v .before .before .loop-test .taken) (v .before .lowest .ensures)
-    (v .without-lowest .ensures)
+item : (c : tie.After-lowest Inv-loop μ-loop) → c .lowest .result < length (c .before .before .before .before .args .opens .now)
+item c = rw (c .lowest .ensures) (joining-turn (c .before .before .loop .inv) (c .before .loop-test .taken) .below)
 
 returns : tie.Need-returns Inv-loop μ-loop
-returns c = nearing-end _ (range (c .before .before)) _ (c .before .before .before .pre .1) _ _ (c .before .loop .inv) (c .loop-test .left)
+unfolding neighbours
+returns c = joining-end (c .before .loop .inv) (c .loop-test .left) ∙ or-zero-l _
 
 pub neighbours-spec : {M : Type 1} → statement M
 neighbours-spec =
-    tie.close (tie.spec Inv-loop μ-loop (λ c. nearing-start _ (range c) _ (c .before .pre .1) (search needs)) (λ c κs. search needs)
-    (λ c κs. c .before .loop-test .taken) (λ c. omega (arith, item c, c .before .before .before .before .before .pre .0)) (λ c. item (c .before))
-    (λ c. turned c .0) (λ c. turned c .1) returns)
+    tie.close (tie.spec Inv-loop μ-loop
+    (λ c. joining-start (omega arith) (search needs) (c .before .pre .1) (λ k h b. omega (arith, c .shared-slice-known .given k)))
+    (λ c κs. search needs) (λ c κs. c .before .loop-test .taken)
+    (λ c. omega (arith, item (c .before), c .before .before .before .before .before .pre .0))
+    (λ c. item (c .before .before))
+    (λ c.
+    let at-turn = c .before .before .before in
+    rw (c .before .without-lowest .ensures) (joining-turn (at-turn .before .loop .inv) (at-turn .loop-test .taken) .less))
+    (λ c.
+    let at-turn = c .before .before .before in
+    rw (c .before .without-lowest .ensures, c .before .before .lowest .ensures) (joining-turn (at-turn .before .loop .inv) (at-turn .loop-test .taken) .next))
+    returns)
