@@ -16,14 +16,18 @@ use Rattle.model.proofs.Allowed.{allowed-by}
 use Rattle.augment.specs.Table.{own, at, cell, Table, Matched, Exposed, Owners}
 use Rattle.augment.specs.Search.{Assignable, Barred}
 use Rattle.augment.proofs.Moves.{same-or, once}
+use Rattle.augment.proofs.Searches.{table-owners}
 use Rattle.augment.proofs.Bars.{Shut, slot-lt, barred}
 use Rattle.augment.proofs.Exists.{assign-or}
 use Rattle.augment.proofs.Completes.{complete-plan, leave-table, leave-exposed, take-complete}
 use Rattle.components.specs.Component.{Closed, Saturating, AllowedTable, Marked, Growing, Grown}
-use Rattle.components.proofs.Grows.{next-bit}
+use Rattle.components.proofs.Grows.{GrowthTurns, next-bit}
 
-module _ {w o : List ℕ} {f : ℕ} {a : List ℕ} {rest path set out : ℕ} (K : Saturating w o f) (P : Growing w o f a rest path set out)
-    (hr : rest < 2 ^ 64) (hs : set < 2 ^ 64) (hf : f < 2 ^ 64) (none : minus (bitAnd rest out) set ≡ 0) where
+module _ {w o : List ℕ} {f rest₀ path set₀ out₀ : ℕ} {a : List ℕ} {rest set out next : ℕ} (K : Saturating w o f)
+    (G : GrowthTurns w o f rest₀ path set₀ out₀ a rest set out next) (hf : f < 2 ^ 64) (none : next ≡ 0) where
+  P : Growing w o f a rest path set out
+  P = G .growing
+
   abbrev p : List ℕ
   p = K .slot
 
@@ -32,7 +36,7 @@ module _ {w o : List ℕ} {f : ℕ} {a : List ℕ} {rest path set out : ℕ} (K 
 
   -- of the slots that are not finished, the set leads only to its own
   only-own : (l : ℕ) → l < 64 → bit rest l + bit out l ≤ 1 + bit set l
-  only-own l h = omega (arith, next-bit P hr hs l h, ap (λ x. bit x l) none, bit-empty l, bit-lt rest l, bit-lt out l)
+  only-own l h = omega (arith, next-bit G l h, ap (λ x. bit x l) none, bit-empty l, bit-lt rest l, bit-lt out l)
 
   -- item x leaves slot s, a slot of the set
   module _ (x : ℕ) (known : x < length w) (b : bit set (at p x) ≡ 1) where
@@ -59,7 +63,7 @@ module _ {w o : List ℕ} {f : ℕ} {a : List ℕ} {rest path set out : ℕ} (K 
     earlier = (2 ^ 64 - 1) - rest
 
     in-earlier : (k : ℕ) → k < 64 → bit earlier k ≡ 1 - bit rest k
-    in-earlier k h = bit-not 64 rest k hr h
+    in-earlier k h = bit-not 64 rest k (G .left-fits) h
 
     shut : Shut w o f′ 0 earlier
     shut =
@@ -126,13 +130,13 @@ module _ {w o : List ℕ} {f : ℕ} {a : List ℕ} {rest path set out : ℕ} (K 
   held k h = bit-minus set f k hf h
 
   pub finish-owners : Owners w o (minus set f)
-  finish-owners = record { few = T .few; range = T .range; owners = T .owners; item = λ k h b. T .item k h (omega (arith, held k h)) }
+  finish-owners = table-owners T (minus set f) (λ k h b. omega (arith, held k h))
 
-  pub finish : {a′ : List ℕ} → Marked w o (minus set f) set a a′ → Grown w o f rest path set out a′ (minus rest set) 0 0
+  pub finish : {a′ : List ℕ} → Marked w o (minus set f) set a a′ → Grown w o f rest₀ path set₀ out₀ a′ (minus rest set) 0 0
   finish N =
       let F = P .finished in
-      let rb : (k : ℕ) → k < 64 → bit (minus rest set) k ≡ min (bit rest k) (1 - bit set k) = λ k h. bit-minus rest set k hs h in
-      record {
+      let rb : (k : ℕ) → k < 64 → bit (minus rest set) k ≡ min (bit rest k) (1 - bit set k) = λ k h. bit-minus rest set k (G .all-fits) h in
+      G .whole (record {
         growing = record {
           finished = record {
             sized = N .sized;
@@ -159,14 +163,17 @@ module _ {w o : List ℕ} {f : ℕ} {a : List ℕ} {rest path set out : ℕ} (K 
         kept = λ k h. omega (arith, rb k h, bit-lt set k);
         led = λ k h. omega (arith, rb k h, only-own k h, bit-lt out k);
         back = λ k b. absurd (omega (arith, bit-empty k));
-      }
+      })
 
 -- ---- no plan, no allowed cell
 
-pub none-allowed : (w : List ℕ) → length w ≤ 64 → ((x : ℕ) → x < length w → getD w x 0 < 2 ^ 64) → ((q : List ℕ) → IsPlan w q → ⊥) → AllowedTable w (replicate 64 0)
-none-allowed w few range none =
+pub none-allowed : {w : List ℕ} → length w ≤ 64 → ((x : ℕ) → x < length w → getD w x 0 < 2 ^ 64) → ((q : List ℕ) → IsPlan w q → ⊥)
+    → AllowedTable w (replicate 64 0)
+none-allowed {w} few range none =
     record {
       sized = refl;
-      word = λ x h. getD-replicate 64 x 0 0 (omega arith) ∙ sym (allowed-by 64 w few range x 0 h (pow-pos 64) (λ j b. absurd (omega (arith, bit-empty j))) (λ q Q. absurd (none q Q)));
+      word = λ x h.
+          getD-replicate 64 x 0 0 (omega arith)
+          ∙ sym (allowed-by 64 w few range x 0 h (pow-pos 64) (λ j b. absurd (omega (arith, bit-empty j))) (λ q Q. absurd (none q Q)));
       zeros = λ x h g. getD-replicate 64 x 0 0 g;
     }
