@@ -1,7 +1,7 @@
 -- The search as a theorem: a slot of cand can be given to an exposed item, or a closed set rules it out. For proofs that need one of
 -- the two without a program. Assumes nothing.
 use mathlib.Core.Path.{_≡_, refl}
-use mathlib.Core.Logic.{_≢_, _⊎_, inl, inr}
+use mathlib.Core.Logic.{_≢_, _⊎_, inl, inr, ⊎-elim}
 use mathlib.Core.List.{List}
 use Prim.Native.Nat.{ℕ, zero, suc, _+_, _^_, _≤_, _<_}
 use native.Mathlib.Decide.{ℕ-discrete}
@@ -25,7 +25,7 @@ pub record After (P : List ℕ → List ℕ → ℕ → ℕ → Type 0) : Type 0
 relocate : {w o p : List ℕ} {f set h : ℕ} → Relocatable w o p f set h → After (Relocated w o p f set h)
 relocate {w} {o} {set = set} {h = h} P =
     let r = span-from w o set h (P .reached) in
-    record { owner = _; slot = _; free = _; at = r .0; holds = relocated P (record { below = r .1; from = r .2; may = r .3 }) }
+    record { owner = _; slot = _; free = _; at = _; holds = relocated P (record { below = r .1; from = r .2; may = r .3 }) }
 
 abbrev Outcome : List ℕ → List ℕ → List ℕ → ℕ → ℕ → ℕ → Type 0
 Outcome w o p f set seen = After (Vacated w o p f set seen) ⊎ ((t : ℕ) × (t < 2 ^ 64) × Certificate w o f set seen t)
@@ -33,7 +33,8 @@ Outcome w o p f set seen = After (Vacated w o p f set seen) ⊎ ((t : ℕ) × (t
 -- one layer, given what the next one brings
 module _ {w o p : List ℕ} {f set seen : ℕ} (Z : Vacatable w o p f set seen) (fits : seen < 2 ^ 64) where
   onward : {layer : ℕ} → Layer w o p f set seen layer → Outcome w o p f layer (bitOr seen layer) → Outcome w o p f set seen
-  onward L (inl r) = let q = relocate (L .relocatable (r .holds)) in inl (record { owner = _; slot = _; free = _; at = _; holds = L .vacated (r .holds) (q .holds) })
+  onward L (inl r) = let q = relocate (L .relocatable (r .holds)) in
+      inl (record { owner = _; slot = _; free = _; at = _; holds = L .vacated (r .holds) (q .holds) })
   onward L (inr r) = inr (r .0, r .1, L .certificate (r .2))
 
   step : ((layer : ℕ) → Layer w o p f set seen layer → layer ≢ 0 → Outcome w o p f layer (bitOr seen layer)) → Outcome w o p f set seen
@@ -53,10 +54,8 @@ pub assign-or : {w o p : List ℕ} {f x cand fixed : ℕ} → cand < 2 ^ 64 → 
     → After (Assigned w o p f x cand fixed) ⊎ ((t : ℕ) × (t < 2 ^ 64) × Barred w o f cand fixed t)
 assign-or {w} {o} {p} {f} {x} {cand} {fixed} hc hk A = go (ℕ-discrete (bitAnd cand f) 0)
   where
-    found : Outcome w o p f cand (bitOr fixed cand) → After (Assigned w o p f x cand fixed) ⊎ ((t : ℕ) × (t < 2 ^ 64) × Barred w o f cand fixed t)
-    found (inl r) = inl (record { owner = _; slot = _; free = _; at = _; holds = assign-found A (r .holds) })
-    found (inr r) = inr (r .0, r .1, assign-barred A (r .2))
-
     go : Dec (bitAnd cand f ≡ 0) → After (Assigned w o p f x cand fixed) ⊎ ((t : ℕ) × (t < 2 ^ 64) × Barred w o f cand fixed t)
     go (no z) = inl (record { owner = _; slot = _; free = _; at = _; holds = at-once A hc z refl })
-    go (yes none) = found (vacate 64 (omega arith) (or-lt 64 fixed cand hk hc) (assign-vacatable A none))
+    go (yes none) =
+        ⊎-elim (λ r. inl (record { owner = _; slot = _; free = _; at = _; holds = assign-found A (r .holds) })) (λ r. inr (r .0, r .1, assign-barred A (r .2)))
+        (vacate 64 (omega arith) (or-lt 64 fixed cand hk hc) (assign-vacatable A none))

@@ -56,16 +56,7 @@ module _ {w o p : List ℕ} {f : ℕ} (T : Table w o p f) where
   release k h b =
       let still : (l : ℕ) → bit (with f k) l ≡ 0 → bit f l ≡ 0 = λ l e. omega (arith, bit-with-le f k l) in
       record {
-        table = record {
-          few = T .few;
-          range = T .range;
-          owners = T .owners;
-          slots = T .slots;
-          item = λ l g e. T .item l g (still l e);
-          open-cell = λ l g e. T .open-cell l g (still l e);
-          back = λ l g e. T .back l g (still l e);
-          zeros = T .zeros;
-        };
+        table = search (still, T .item, T .open-cell, T .back);
         exposed = λ M. omega (arith, M .held, ap (bit (with f k)) (T .back k h b), bit-with f k);
         stay = λ x d M.
             record { slot = M .slot; held = bit-with-other f k (at p x) (λ e. d (sym (M .owns) ∙ ap (own o) e)) ∙ M .held; owns = M .owns };

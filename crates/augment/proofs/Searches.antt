@@ -10,7 +10,7 @@ use lib.ListN.{length, getD, set}
 use Rattle.words.specs.Word.{bit, with, without, minus, lowest}
 use Rattle.words.proofs.Bits.{bit-lt, bit-empty, bit-and, bit-or, bit-minus, bit-with, bit-with-other}
 use Rattle.words.proofs.SetLaws.{bit-with-le, minus-le, ones-proper, lowest-lt, bit-lowest}
-use Rattle.augment.specs.Table.{own, cell, Table, Owners, span}
+use Rattle.augment.specs.Table.{own, cell, Table, Matched, Owners, span}
 use Rattle.augment.specs.Search.{Movable, Mover, Relocatable, Relocated, Vacatable, Vacated, Certificate, Assignable, Assigned, Barred}
 use Rattle.augment.proofs.Spans.{span-into, span-from, span-lt}
 use Rattle.augment.proofs.Moves.{same-or, holder-matched, release, take}
@@ -87,21 +87,24 @@ module _ {w o p : List ℕ} {f set′ seen : ℕ} (Z : Vacatable w o p f set′ 
   pub vacate-owners : Owners w o set′
   vacate-owners = table-owners (Z .table) set′ held-set
 
-  -- a free slot h is at hand
-  pub vacated-at-hand : {h : ℕ} → Relocatable w o p f set′ h → {o′ p′ : List ℕ} {f′ k : ℕ} → Relocated w o p f set′ h o′ p′ f′ k
-      → Vacated w o p f set′ seen o′ p′ f′ k
-  vacated-at-hand A P =
+  -- the holder of a slot of the set goes to a slot h outside `seen` that is free in tables that are the same on `seen`
+  vacated-by : {o₁ p₁ : List ℕ} {f₁ h : ℕ} → ((l : ℕ) → l < 64 → bit seen l ≡ 1 → (l ≢ h) × (bit f₁ l ≡ 0) × (own o₁ l ≡ own o l))
+      → ((x : ℕ) → Matched o p f x → Matched o₁ p₁ f₁ x) → ((x : ℕ) → Matched o₁ p₁ f₁ x → Matched o p f x)
+      → {o₂ p₂ : List ℕ} {f₂ k : ℕ} → Relocated w o₁ p₁ f₁ set′ h o₂ p₂ f₂ k → Vacated w o p f set′ seen o₂ p₂ f₂ k
+  vacated-by same stay new P =
       record {
         table = P .table;
         below = P .below;
         from = P .from;
         hole = P .hole;
-        kept = λ l g b d.
-            let r = P .kept l g d (λ e. omega (arith, Z .held l g b, ap (bit f) e, A .hole)) in
-            (r .0 ∙ Z .held l g b, r .1);
-        stay = P .stay;
-        new = P .new;
+        kept = λ l g b d. let s = same l g b in let r = P .kept l g d (s .0) in (r .0 ∙ s .1, r .1 ∙ s .2);
+        stay = λ x M. P .stay x (stay x M);
+        new = λ x M. new x (P .new x M);
       }
+
+  pub vacated-at-hand : {h : ℕ} → Relocatable w o p f set′ h → {o′ p′ : List ℕ} {f′ k : ℕ} → Relocated w o p f set′ h o′ p′ f′ k
+      → Vacated w o p f set′ seen o′ p′ f′ k
+  vacated-at-hand A = vacated-by (λ l g b. ((λ e. omega (arith, Z .held l g b, ap (bit f) e, A .hole)), Z .held l g b, refl)) (λ x M. M) (λ x M. M)
 
   module _ {reach : ℕ} (er : reach ≡ span w o set′) where
     reach-lt : reach < 2 ^ 64
@@ -150,7 +153,8 @@ module _ {w o p : List ℕ} {f set′ seen : ℕ} (Z : Vacatable w o p f set′ 
                 let h = lowest-lt layer z small in
                 let b = bit-lowest layer z small in
                 let m = in-layer j h in (
-                  ones-proper 64 seen (bitOr seen layer) j fits wider (λ k l. omega (arith, seen′ k l)) (omega (arith, bit-lt seen j)) (omega (arith, seen′ j h, bit-lt reach j)),
+                  ones-proper 64 seen (bitOr seen layer) j fits wider (λ k l. omega (arith, seen′ k l)) (omega (arith, bit-lt seen j))
+                      (omega (arith, seen′ j h, bit-lt reach j)),
                   ones-le 64 (bitOr seen layer) wider,
                 );
             vacatable = record {
@@ -169,9 +173,10 @@ module _ {w o p : List ℕ} {f set′ seen : ℕ} (Z : Vacatable w o p f set′ 
                   (λ k h. same-or (bit layer k) 1
                   (λ e.
                   let r = from k (omega (arith, in-layer k h, bit-lt reach k)) in
-                  let i = in-seen (r .0) (r .1) (r .2) in
-                  let m = c (r .0) (r .1) (omega (arith, s (r .0) (r .1), bit-lt g (r .0))) (omega (arith, C .more (r .0) (r .1), bit-or seen layer (r .0), bit-lt t (r .0)))
-                  (omega (arith, i, r .2)) k h in
+                  let j = r .0 in
+                  let i = in-seen j (r .1) (r .2) in
+                  let in-t : bit t j ≡ 1 = omega (arith, C .more j (r .1), bit-or seen layer j, bit-lt t j) in
+                  let m = c j (r .1) (omega (arith, s j (r .1), bit-lt g j)) in-t (omega (arith, i, r .2)) k h in
                   omega (arith, bit-or seen layer k, m, r .3, bit-lt seen k))
                   (λ d. omega (arith, bit-or seen layer k, s k h, bit-lt layer k)))
                   (λ k h b e m. c k h b e (omega (arith, seen′ k h, in-layer k h, bit-lt seen k, bit-lt reach k)));
@@ -186,18 +191,7 @@ module _ {w o p : List ℕ} {f set′ seen : ℕ} (Z : Vacatable w o p f set′ 
                   hole = U .hole;
                   reached = omega (arith, span-into w o₁ set′ (r .0) j (r .1) (r .2), ap (λ x. cell w x j) same, r .3, bit-lt (span w o₁ set′) j);
                 };
-            vacated = λ U P. record {
-              table = P .table;
-              below = P .below;
-              from = P .from;
-              hole = P .hole;
-              kept = λ l g b d.
-                  let s = kept-seen U l g b in
-                  let r = P .kept l g d (s .0) in
-                  (r .0 ∙ s .1, r .1 ∙ s .2);
-              stay = λ x M. P .stay x (U .stay x M);
-              new = λ x M. U .new x (P .new x M);
-            };
+            vacated = λ U P. vacated-by (kept-seen U) (U .stay) (U .new) P;
           }
 
 -- ---- assign
@@ -226,15 +220,8 @@ module _ {w o p : List ℕ} {f x cand fixed : ℕ} (A : Assignable w o p f x can
   pub at-once : {h : ℕ} → cand < 2 ^ 64 → bitAnd cand f ≢ 0 → h ≡ lowest (bitAnd cand f) → Assigned w o p f x cand fixed (set o h x) (set p x h) (without f h) h
   at-once {h} l z e =
       let c = common cand f h l z e in
-      assigned (record {
-        table = A .table;
-        below = c .below;
-        from = c .left;
-        hole = c .right;
-        kept = λ l g b d. (A .held l g b, refl);
-        stay = λ y M. M;
-        new = λ y M. M;
-      })
+      let free : Vacated w o p f cand fixed o p f h = search (A .held) in
+      assigned free
 
   pub assign-vacatable : bitAnd cand f ≡ 0 → Vacatable w o p f cand (bitOr fixed cand)
   assign-vacatable none =
@@ -258,13 +245,7 @@ module _ {w o p : List ℕ} {f x cand fixed : ℕ} (A : Assignable w o p f x can
 
   pub assign-found : {o₁ p₁ : List ℕ} {f₁ k : ℕ} → Vacated w o p f cand (bitOr fixed cand) o₁ p₁ f₁ k
       → Assigned w o p f x cand fixed (set o₁ k x) (set p₁ x k) (without f₁ k) k
-  assign-found U =
-      assigned (record {
-        table = U .table;
-        below = U .below;
-        from = U .from;
-        hole = U .hole;
-        kept = λ l g b d. U .kept l g (omega (arith, bit-or fixed cand l, bit-lt cand l)) d;
-        stay = U .stay;
-        new = U .new;
-      })
+  assign-found {o₁} {p₁} {f₁} {k} U =
+      let wider : (l : ℕ) → bit fixed l ≡ 1 → bit (bitOr fixed cand) l ≡ 1 = λ l b. omega (arith, bit-or fixed cand l, bit-lt cand l) in
+      let free : Vacated w o p f cand fixed o₁ p₁ f₁ k = search (U .kept, wider) in
+      assigned free

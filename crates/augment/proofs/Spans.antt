@@ -61,5 +61,6 @@ module _ {w o : List ℕ} {set h left : ℕ} (S : Moving w o set h left) where
         item = S .owners .item k (t .below) (t .from);
         found = λ b. record { below = t .below; from = t .from; may = b };
         less = t .less;
-        next = λ b. record { owners = S .owners; walk = t .next; reached = omega (arith, S .reached, joined-pick (held-open w o) 64 left k h (t .below) (t .here)) };
+        next = λ b. let pick = joined-pick (held-open w o) 64 left k h (t .below) (t .here) in
+            record { owners = S .owners; walk = t .next; reached = omega (arith, S .reached, pick) };
       }

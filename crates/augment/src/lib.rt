@@ -64,7 +64,8 @@ pub fn relocate(
     h: usize,
 ) -> Found
     requires { ⌜ Relocatable (now opens) (now owner) (now slot) free set h ⌝ }
-    ensures { λ r. ⌜ Relocated (now (opens .entry)) (now (owner .entry)) (now (slot .entry)) free set h (now (owner .exit)) (now (slot .exit)) (r .word) (r .at) ⌝ }
+    ensures { λ r. ⌜ Relocated (now (opens .entry)) (now (owner .entry)) (now (slot .entry)) free set h
+        (now (owner .exit)) (now (slot .exit)) (r .word) (r .at) ⌝ }
 {
     let k = mover(opens, owner, set, h);
     let y = holder(owner, k);
@@ -87,8 +88,10 @@ pub fn vacate(
     seen: u64,
 ) -> Found
     requires { ⌜ Vacatable (now opens) (now owner) (now slot) free set seen ⌝ }
-    ensures found { λ r. ⌜ (r .at ≢ 64 → Vacated (now (opens .entry)) (now (owner .entry)) (now (slot .entry)) free set seen (now (owner .exit)) (now (slot .exit)) (r .word) (r .at)) ⌝ }
-    ensures none { λ r. ⌜ (r .at ≡ 64 → Same (now (owner .entry)) (now (slot .entry)) (now (owner .exit)) (now (slot .exit)) × Certificate (now (opens .entry)) (now (owner .entry)) free set seen (r .word)) ⌝ }
+    ensures found { λ r. ⌜ (r .at ≢ 64 → Vacated (now (opens .entry)) (now (owner .entry)) (now (slot .entry)) free set seen
+        (now (owner .exit)) (now (slot .exit)) (r .word) (r .at)) ⌝ }
+    ensures none { λ r. ⌜ (r .at ≡ 64 → Same (now (owner .entry)) (now (slot .entry)) (now (owner .exit)) (now (slot .exit))
+        × Certificate (now (opens .entry)) (now (owner .entry)) free set seen (r .word)) ⌝ }
 {
     let reach = span(opens, owner, set);
     let hit = reach & free;
@@ -119,8 +122,10 @@ pub fn assign(
     fixed: u64,
 ) -> Found
     requires { ⌜ Assignable (now opens) (now owner) (now slot) free x cand fixed ⌝ }
-    ensures found { λ r. ⌜ (r .at ≢ 64 → Assigned (now (opens .entry)) (now (owner .entry)) (now (slot .entry)) free x cand fixed (now (owner .exit)) (now (slot .exit)) (r .word) (r .at)) ⌝ }
-    ensures none { λ r. ⌜ (r .at ≡ 64 → Same (now (owner .entry)) (now (slot .entry)) (now (owner .exit)) (now (slot .exit)) × Barred (now (opens .entry)) (now (owner .entry)) free cand fixed (r .word)) ⌝ }
+    ensures found { λ r. ⌜ (r .at ≢ 64 → Assigned (now (opens .entry)) (now (owner .entry)) (now (slot .entry)) free x cand fixed
+        (now (owner .exit)) (now (slot .exit)) (r .word) (r .at)) ⌝ }
+    ensures none { λ r. ⌜ (r .at ≡ 64 → Same (now (owner .entry)) (now (slot .entry)) (now (owner .exit)) (now (slot .exit))
+        × Barred (now (opens .entry)) (now (owner .entry)) free cand fixed (r .word)) ⌝ }
 {
     let hit = cand & free;
     if hit != 0 {

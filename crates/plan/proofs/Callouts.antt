@@ -14,23 +14,23 @@ use Rattle.model.specs.Fewest.{calloutsOf}
 abbrev pub calledOut : List ℕ → List ℕ → ℕ → ℕ
 calledOut callouts plan k = bit (getD callouts k 0) (getD plan k 0)
 
-module _ (callouts plan : List ℕ) where
-  -- so many callouts before item i
-  abbrev pub SoFar : ℕ → ℕ → Type 0
-  SoFar i number = (number ≤ i) × (number ≡ sum (calledOut callouts plan) i)
+-- so many callouts before item i
+pub record SoFar (callouts plan : List ℕ) (i number : ℕ) : Type 0 where
+  pub few : number ≤ i
+  pub counted : number ≡ sum (calledOut callouts plan) i
 
-  pub none : SoFar 0 0
-  none = (omega arith, sym (sum-zero (calledOut callouts plan)))
+pub none : {callouts plan : List ℕ} → SoFar callouts plan 0 0
+none {callouts} {plan} = record { few = omega arith; counted = sym (sum-zero (calledOut callouts plan)) }
 
-  pub small : (i x : ℕ) → x ≡ calledOut callouts plan i → x ≤ 1
-  small i x e = omega (arith, e, bit-lt (getD callouts i 0) (getD plan i 0))
+module _ {callouts plan : List ℕ} {i number : ℕ} (S : SoFar callouts plan i number) where
+  pub one-more : {x : ℕ} → x ≡ calledOut callouts plan i → SoFar callouts plan (i + 1) (number + x)
+  one-more e =
+      let next : suc i ≡ i + 1 = omega arith in
+      record {
+        few = omega (arith, S .few, bit-lt (getD callouts i 0) (getD plan i 0));
+        counted = ap₂ _+_ (S .counted) e ∙ sym (sum-suc (calledOut callouts plan) i) ∙ ap (sum (calledOut callouts plan)) next;
+      }
 
-  pub one-more : (i number x : ℕ) → SoFar i number → x ≡ calledOut callouts plan i → SoFar (i + 1) (number + x)
-  one-more i number x b e =
-      let next : i + 1 ≡ suc i = omega arith in
-      let few = small i x e in
-      (omega (arith, few, b .0), ap₂ _+_ (b .1) e ∙ sym (sum-suc (calledOut callouts plan) i) ∙ ap (sum (calledOut callouts plan)) (sym next))
-
-  pub all : (i number : ℕ) → i ≡ length callouts → SoFar i number → number ≡ calloutsOf callouts plan
+  pub all : i ≡ length callouts → number ≡ calloutsOf callouts plan
   unfolding calloutsOf
-  all i number e b = b .1 ∙ ap (sum (calledOut callouts plan)) e
+  all e = S .counted ∙ ap (sum (calledOut callouts plan)) e

@@ -93,6 +93,8 @@ pub +vacate-spec : {M : Type 1} → statement M
     layer t (at-minus t at-vacate) .relocatable (rw take-length at (at-vacate .vacate .ensures .0 (c .before .before .if3 .left))))
     (λ c.
     let at-vacate = c .before .before .before .before .before in (
-      λ n. layer t (at-minus t at-vacate) .vacated (rw take-length at (at-vacate .vacate .ensures .0 (c .before .before .before .if3 .left))) (c .relocate2 .ensures),
+      λ n.
+          layer t (at-minus t at-vacate) .vacated (rw take-length at (at-vacate .vacate .ensures .0 (c .before .before .before .if3 .left)))
+          (c .relocate2 .ensures),
       λ e. absurd (omega (arith, c .relocate2 .ensures .below)),
     ))

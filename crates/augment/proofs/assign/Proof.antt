@@ -14,9 +14,9 @@ freed-lt c = c .before .before .vacate .ensures .0 (c .if2 .left) .below
 
 returns : tie.Need-returns
 returns c =
-    let at-lowest = c .before in (
-      λ n. rw (c .without .ensures) (at-once (at-lowest .before .before .before .pre) (search needs) (at-lowest .before .if1 .taken) (at-lowest .lowest .ensures)),
-      λ e. absurd (omega (arith, slot-lt at-lowest)),
+    let at-hit = c .before .before in (
+      λ n. rw (c .without .ensures) (at-once (at-hit .before .before .pre) (search needs) (at-hit .if1 .taken) (c .before .lowest .ensures)),
+      λ e. absurd (omega (arith, slot-lt (c .before))),
     )
 
 returns-2 : tie.Need-returns-2
@@ -28,8 +28,9 @@ returns-2 c =
 
 returns-3 : tie.Need-returns-3
 returns-3 c =
-    let at-vacate = c .before .before .before in (
-      λ n. rw (c .without2 .ensures) (assign-found (at-vacate .before .before .before .before .before .pre) (at-vacate .vacate .ensures .0 (c .before .if2 .left))),
+    let at-vacate = c .before .before .before in
+    let s = at-vacate .before .before .before .before .before in (
+      λ n. rw (c .without2 .ensures) (assign-found (s .pre) (at-vacate .vacate .ensures .0 (c .before .if2 .left))),
       λ e. absurd (omega (arith, freed-lt (c .before))),
     )
 

@@ -6,8 +6,9 @@ use native.Mathlib.Omega.{arith}
 use borrow.Author.Tests.{not-true, not-false}
 use lib.ListN.{length, getD}
 use Rattle.words.proofs.Bits.{bit-one, bit-none}
+use Rattle.model.specs.Plans.{IsPlan}
 use Rattle.plan.specs.Adoption.{Adopted}
-use Rattle.plan.proofs.Adopts.{adopted-start, adopted-turn, adopted-slot, adopted-open, adopted-free}
+use Rattle.plan.proofs.Adopts.{PlanSlot, adopted-start, adopted-turn, plan-slot}
 use borrow.Author.Needs.{needs}
 use Rattle.plan.proofs.adopt_items.Statement.{statement}
 use Rattle.plan.proofs.adopt_items.Tie as tie
@@ -21,39 +22,19 @@ abbrev μ-loop : tie.MeasureT-loop
 range : (c : tie.After-shared-slice-known Inv-loop μ-loop) → (x : ℕ) → getD (c .before .args .opens .now) x 0 < 2 ^ 64
 range c x = omega (arith, c .shared-slice-known .given x)
 
-returns : tie.Need-returns Inv-loop μ-loop
-returns c = (
-  λ e. absurd (false≢true e),
-  λ e P. omega (arith, c .if1 .taken, adopted-slot _ _ _ _ _ _ (c .before .before .before .loop .inv .1) (c .before .wide .ensures) (c .before .before .loop-test .taken) P (range (c .before .before .before .before .before) _)),
-)
-
-returns-2 : tie.Need-returns-2 Inv-loop μ-loop
-returns-2 c = (
-  λ e. absurd (false≢true e),
-  λ e P.
-      omega (
-        arith,
-        bit-none _ _ (sym (c .before .has .ensures) ∙ not-true _ (c .if2 .taken)),
-        adopted-open _ _ _ _ _ _ (c .before .before .before .before .before .before .loop .inv .1) (c .before .before .before .before .wide .ensures) (c .before .before .before .before .before .loop-test .taken) P (range (c .before .before .before .before .before .before .before .before) _),
-      ),
-)
-
-returns-3 : tie.Need-returns-3 Inv-loop μ-loop
-returns-3 c = (
-  λ e. absurd (false≢true e),
-  λ e P.
-      adopted-free _ _ _ _ _ _ (c .before .before .before .before .before .before .before .before .loop .inv .1) (c .before .before .before .before .before .before .wide .ensures) (c .before .before .before .before .before .before .before .loop-test .taken) P (range (c .before .before .before .before .before .before .before .before .before .before) _) (omega arith)
-      (bit-none _ _ (sym (c .before .has2 .ensures) ∙ not-true _ (c .if3 .taken))),
-)
+-- what a plan has at the item
+if-plan : (c : tie.After-wide Inv-loop μ-loop) → let l = c .before .before .loop in let a = c .before .before .before .before .before .args in
+    IsPlan (a .opens .now) (a .t2) → PlanSlot (a .opens .now) (l .free) (l .i) (c .wide .result)
+if-plan c =
+    let at-loop = c .before .before in
+    plan-slot (at-loop .loop .inv .1) (c .wide .ensures) (c .before .loop-test .taken) (range (at-loop .before .before) _)
 
 loop-again : tie.Need-loop-again Inv-loop μ-loop
-loop-again c = (
-  omega arith,
-  adopted-turn _ _ _ _ _ _ (c .before .before .before .before .before .before .before .before .before .loop .inv .1) (c .before .before .before .before .before .before .before .wide .ensures) _ (omega arith)
-      (bit-one _ _ (sym (c .before .before .before .before .has .ensures) ∙ not-false _ (c .before .before .before .if2 .left)))
-      (bit-one _ _ (sym (c .before .before .has2 .ensures) ∙ not-false _ (c .before .if3 .left)))
-      (c .without .ensures),
-)
+loop-again c =
+    let at-wide = c .before .before .before .before .before .before .before in
+    let may = bit-one _ _ (sym (c .before .before .before .before .has .ensures) ∙ not-false _ (c .before .before .before .if2 .left)) in
+    let unused = bit-one _ _ (sym (c .before .before .has2 .ensures) ∙ not-false _ (c .before .if3 .left)) in
+    (omega arith, adopted-turn (at-wide .before .before .loop .inv .1) (at-wide .wide .ensures) (omega arith) may unused (c .without .ensures))
 
 returns-4 : tie.Need-returns-4 Inv-loop μ-loop
 returns-4 c =
@@ -63,6 +44,15 @@ returns-4 c =
 
 pub adopt-items-spec : {M : Type 1} → statement M
 adopt-items-spec =
-    tie.close (tie.spec Inv-loop μ-loop (λ c κs. omega arith) (λ c. (omega arith, adopted-start _ _ _ _ (c .before .before .pre .1) (c .low .ensures)))
-    (λ c. omega arith) (λ c κs. search needs) returns (λ c. omega arith) (λ c. omega arith) (λ c κs. omega arith) returns-2 (λ c κs. omega arith) returns-3
+    tie.close (tie.spec Inv-loop μ-loop (λ c κs. omega arith) (λ c. (omega arith, adopted-start (c .before .before .pre .1) (c .low .ensures)))
+    (λ c. omega arith) (λ c κs. search needs)
+    (λ c. (λ e. absurd (false≢true e), λ e P. omega (arith, c .if1 .taken, if-plan (c .before) P .below)))
+    (λ c. omega arith) (λ c. omega arith) (λ c κs. omega arith)
+    (λ c.
+    let shut = bit-none _ _ (sym (c .before .has .ensures) ∙ not-true _ (c .if2 .taken)) in
+    (λ e. absurd (false≢true e), λ e P. omega (arith, shut, if-plan (c .before .before .before .before) P .may)))
+    (λ c κs. omega arith)
+    (λ c.
+    let used = bit-none _ _ (sym (c .before .has2 .ensures) ∙ not-true _ (c .if3 .taken)) in
+    (λ e. absurd (false≢true e), λ e P. if-plan (c .before .before .before .before .before .before) P .unused used))
     (λ c. omega arith) (λ c. omega arith) (λ c κs. omega arith) (λ c. omega arith) (λ c. omega arith) loop-again returns-4)
