@@ -4,27 +4,25 @@ use mathlib.Core.Logic.{_≢_, _⊎_, inl, inr}
 use mathlib.Core.List.{List}
 use Prim.Native.Nat.{ℕ, _^_, _≤_, _<_}
 use native.Mathlib.Omega.{arith}
-use native.Mathlib.Decide.{decLt}
 use lib.ListN.{length, getD}
 use Rattle.words.proofs.Bits.{bit-empty}
 use Rattle.model.specs.Plans.{IsPlan}
 use Rattle.model.specs.PlanAnswers.{firstFrom, given}
 use Rattle.model.specs.Lists.{Before}
-use Rattle.model.proofs.Order.{before-trichotomy, before-place}
+use Rattle.model.proofs.Order.{before-trichotomy, before-place, before-by}
 use Rattle.model.proofs.Laws.{first-of, first-of-none}
 use Rattle.augment.specs.Table.{at, Complete}
 use Rattle.maximum.specs.Maximum.{Filled, deficientBy}
-use Rattle.maximum.proofs.Deficient.{deficient-answer, exposed-no-plan}
+use Rattle.maximum.proofs.Deficient.{deficient-answer, exposed-no-plan, none-exposed-complete}
 use Rattle.least.specs.Least.{Settleable, Same-to, Settled}
+use Rattle.least.proofs.Shifts.{lt-or}
 
--- ---- a complete table
-
--- no item is before the first
-pub whole-settleable : (w o p : List ℕ) (f : ℕ) → Complete w o p f → Settleable w o p f 0 0
-whole-settleable w o p f C =
+-- a full table is complete, and no item is before the first
+pub filled-settleable : {w o p : List ℕ} {f e d : ℕ} → Filled w o p f e d → e ≡ 0 → Settleable w o p f 0 0
+filled-settleable {w} {o} {p} {f} {e} {d} F z =
     record {
       before = record {
-        complete = C;
+        complete = none-exposed-complete w o p f e d F z;
         held = λ k h b. absurd (omega (arith, bit-empty k));
         only = λ k h b. absurd (omega (arith, bit-empty k));
         all = λ k h b l. absurd (omega arith);
@@ -32,33 +30,31 @@ whole-settleable w o p f C =
       within = omega arith;
     }
 
--- ---- a plan that gives the items before `from` the same slots is the settled one, or comes after it
+-- where one plan comes before another, at the first item at which they differ
+pub before-item : {w p q : List ℕ} → IsPlan w p → IsPlan w q → Before p q → (i : ℕ) × (i < length w) × Same-to p q i × (at p i < at q i)
+before-item {w} {p} {q} P Q b =
+    let d = before-place p q (P .sized ∙ sym (Q .sized)) b in
+    lt-or (d .0) (length w) (λ h. (d .0, h, d .2, d .3)) (λ h. absurd (omega (arith, d .1, d .3, Q .zeros (d .0) h (omega (arith, d .1, P .sized)))))
 
-pub settled-before : (w p : List ℕ) (from : ℕ) (r : List ℕ) → Settled w p from r → (q : List ℕ) → IsPlan w q → Same-to q r from → (q ≡ r) ⊎ Before r q
-settled-before w p from r S q Q A = go (before-trichotomy q r (Q .sized ∙ sym (S .plan .sized)))
+pub before-at : {w p q : List ℕ} → length w ≤ 64 → IsPlan w p → IsPlan w q → (i : ℕ) → i < length w → Same-to p q i → at p i < at q i → Before p q
+before-at {w} {p} {q} few P Q i h same less = before-by p q i (omega (arith, P .sized)) (omega (arith, Q .sized)) same less
+
+-- a plan that gives the items before `from` the same slots is the settled one, or comes after it
+pub settled-before : {w p : List ℕ} {from : ℕ} {r : List ℕ} → Settled w p from r → {q : List ℕ} → IsPlan w q → Same-to q r from → (q ≡ r) ⊎ Before r q
+settled-before {from} {r} S {q} Q A = go (before-trichotomy q r (Q .sized ∙ sym (S .plan .sized)))
   where
-    -- q can't come first: at the first place at which they differ r is least
-    not-first : Before q r → ⊥
-    not-first b =
-        let d = before-place q r (Q .sized ∙ sym (S .plan .sized)) b in
-        place (d .0) (d .1) (d .2) (d .3) (decLt (d .0) (length w)) (decLt (d .0) from)
-      where
-        place : (i : ℕ) → i < length q → Same-to q r i → at q i < at r i → Dec (i < length w) → Dec (i < from) → ⊥
-        place i h a l d (yes e) = omega (arith, A i e)
-        place i h a l (yes g) (no e) = omega (arith, S .least i (omega arith) g q Q a)
-        place i h a l (no g) (no e) = omega (arith, S .plan .zeros i (omega arith) (omega (arith, Q .sized)))
-
     go : (q ≡ r) ⊎ (Before q r ⊎ Before r q) → (q ≡ r) ⊎ Before r q
     go (inl e) = inl e
-    go (inr (inl b)) = absurd (not-first b)
     go (inr (inr b)) = inr b
+    go (inr (inl b)) =
+        let d = before-item Q (S .plan) b in
+        absurd (lt-or (d .0) from (λ h. omega (arith, d .3, A (d .0) h)) (λ h. omega (arith, d .3, S .least (d .0) h (d .1) q Q (d .2))))
 
 -- ---- the answers
 
 module _ (w : List ℕ) (few : length w ≤ 64) (range : (x : ℕ) → x < length w → getD w x 0 < 2 ^ 64) where
-  pub first-found : (p r : List ℕ) → Settled w p 0 r
-      → given r 0 ≡ firstFrom 64 w
-  first-found p r S = sym (first-of 64 w few range r (S .plan) (λ q Q. settled-before w p 0 r S q Q (λ l h. absurd (omega arith))))
+  pub first-found : {p r : List ℕ} → Settled w p 0 r → given r 0 ≡ firstFrom 64 w
+  first-found {p} {r} S = sym (first-of 64 w few range r (S .plan) (λ q Q. settled-before S Q (λ l h. absurd (omega arith))))
 
-  pub first-none : (o p : List ℕ) (f e d : ℕ) → Filled w o p f e d → e ≢ 0 → deficientBy o e d ≡ firstFrom 64 w
-  first-none o p f e d F some = deficient-answer w o p f e d F ∙ sym (first-of-none 64 w few range (exposed-no-plan w o p f e d F some))
+  pub first-none : {o p : List ℕ} {f e d : ℕ} → Filled w o p f e d → e ≢ 0 → deficientBy o e d ≡ firstFrom 64 w
+  first-none {o} {p} {f} {e} {d} F some = deficient-answer w o p f e d F ∙ sym (first-of-none 64 w few range (exposed-no-plan w o p f e d F some))

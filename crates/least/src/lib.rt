@@ -22,8 +22,10 @@ pub fn shift(
     fixed: u64,
 ) -> Found
     requires { ⌜ Shiftable (now opens) (now owner) (now slot) free x cand fixed ⌝ }
-    ensures found { λ r. ⌜ (r .at ≢ 64 → Shifted (now (opens .entry)) (now (owner .entry)) x cand fixed (now (owner .exit)) (now (slot .exit)) (r .word) (r .at)) ⌝ }
-    ensures none { λ r. ⌜ (r .at ≡ 64 → Same (now (owner .entry)) (now (slot .entry)) (now (owner .exit)) (now (slot .exit)) × Stuck (now (opens .entry)) (now (owner .entry)) x cand fixed) ⌝ }
+    ensures found { λ r. ⌜ (r .at ≢ 64 → Shifted (now (opens .entry)) (now (owner .entry)) x cand fixed
+        (now (owner .exit)) (now (slot .exit)) (r .word) (r .at)) ⌝ }
+    ensures none { λ r. ⌜ (r .at ≡ 64 → Same (now (owner .entry)) (now (slot .entry)) (now (owner .exit)) (now (slot .exit))
+        × Stuck (now (opens .entry)) (now (owner .entry)) x cand fixed) ⌝ }
 {
     let s = words::wide(slot[x]);
     augment::assign(opens, owner, slot, words::with(free, s), x, cand, fixed)
@@ -94,7 +96,8 @@ pub fn minimize(
     fixed: u64,
 ) -> Found
     requires { ⌜ Minimizable (now opens) (now owner) (now slot) free x after fixed ⌝ }
-    ensures { λ r. ⌜ Lowered (now (opens .entry)) (now (owner .entry)) x (getD (now (opens .entry)) x 0) fixed (now (owner .exit)) (now (slot .exit)) (r .word) (r .at) ⌝ }
+    ensures { λ r. ⌜ Lowered (now (opens .entry)) (now (owner .entry)) x (getD (now (opens .entry)) x 0) fixed
+        (now (owner .exit)) (now (slot .exit)) (r .word) (r .at) ⌝ }
 {
     let s = words::wide(slot[x]);
     let word = opens[x];

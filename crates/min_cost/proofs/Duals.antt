@@ -111,7 +111,7 @@ module _ {w c : List ℕ} (S : Square w c) {u v : ℕ → ℕ} {r : ℕ} (D : Du
           plan = Q;
           number = met q Q (λ i h. tight-at q (A .plan) i h .1);
           fewer = bound;
-          first = λ x X e. settled-before t p 0 q A x (plan-in x X e) (λ l h. absurd (omega arith));
+          first = λ x X e. settled-before A (plan-in x X e) (λ l h. absurd (omega arith));
         }
 
 -- ---- the answers

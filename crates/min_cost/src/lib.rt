@@ -41,7 +41,8 @@ fn raise(
     up: u64,
 )
     requires { ⌜ Raisable (now opens) (now callouts) (now level) (now dual) (now tight) up ⌝ }
-    ensures { λ _. ⌜ Raised (now (opens .entry)) (now (callouts .entry)) (now (level .entry)) (now (dual .entry)) up (now (dual .exit)) (now (tight .exit)) ⌝ }
+    ensures { λ _. ⌜ Raised (now (opens .entry)) (now (callouts .entry)) (now (level .entry)) (now (dual .entry)) up
+        (now (dual .exit)) (now (tight .exit)) ⌝ }
 {
     let mut i = 0;
     while i < opens.len() {

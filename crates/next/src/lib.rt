@@ -25,8 +25,10 @@ pub fn advance_item(
     fixed: u64,
 ) -> Found
     requires { ⌜ Minimizable (now opens) (now owner) (now slot) free x after fixed ⌝ }
-    ensures found { λ r. ⌜ (r .at ≢ 64 → Lowered (now (opens .entry)) (now (owner .entry)) x (above (now (opens .entry)) (now (slot .entry)) x) fixed (now (owner .exit)) (now (slot .exit)) (r .word) (r .at)) ⌝ }
-    ensures none { λ r. ⌜ (r .at ≡ 64 → Same (now (owner .entry)) (now (slot .entry)) (now (owner .exit)) (now (slot .exit)) × Stuck (now (opens .entry)) (now (owner .entry)) x (above (now (opens .entry)) (now (slot .entry)) x) fixed) ⌝ }
+    ensures found { λ r. ⌜ (r .at ≢ 64 → Lowered (now (opens .entry)) (now (owner .entry)) x (above (now (opens .entry)) (now (slot .entry)) x) fixed
+        (now (owner .exit)) (now (slot .exit)) (r .word) (r .at)) ⌝ }
+    ensures none { λ r. ⌜ (r .at ≡ 64 → Same (now (owner .entry)) (now (slot .entry)) (now (owner .exit)) (now (slot .exit))
+        × Stuck (now (opens .entry)) (now (owner .entry)) x (above (now (opens .entry)) (now (slot .entry)) x) fixed) ⌝ }
 {
     let s = words::wide(slot[x]);
     let word = opens[x];

@@ -10,10 +10,8 @@ Inv-loop opens from table₀ all₀ i₀ table all i = Gathered opens table all 
 abbrev μ-loop : tie.MeasureT-loop
 μ-loop opens from table₀ all₀ i₀ table all i = i
 
-loop-again : tie.Need-loop-again Inv-loop μ-loop
-loop-again c = let l = c .before .before in gathered-turn _ _ _ _ (l .before .pre .0) (l .loop .inv) (omega arith)
-
 pub later-spec : {M : Type 1} → statement M
 later-spec =
-    tie.close (tie.spec Inv-loop μ-loop (λ c. gathered-start _ _ (c .pre .1)) (λ c. omega arith) (λ c. omega arith) (λ c. omega arith) (λ c. omega arith)
-    (λ c. omega arith) (λ c. omega arith) loop-again (λ c. λ x h g. c .before .loop .inv .words x (omega arith) g))
+    tie.close (tie.spec Inv-loop μ-loop (λ c. gathered-start _ _ (c .pre)) (λ c. omega arith) (λ c. omega arith) (λ c. omega arith) (λ c. omega arith)
+    (λ c. omega arith) (λ c. omega arith) (λ c. gathered-turn (c .before .before .loop .inv) (omega arith))
+    (λ c. λ x h g. c .before .loop .inv .words x (omega arith) g))

@@ -5,9 +5,9 @@ use native.Mathlib.Omega.{arith}
 use borrow.Author.Needs.{needs}
 use lib.ListN.{length}
 use Rattle.words.specs.Word.{low}
-use Rattle.maximum.proofs.Deficient.{dead-owners, none-exposed-complete}
+use Rattle.maximum.proofs.Deficient.{dead-owners}
 use Rattle.maximum.proofs.Filling.{all-fillable}
-use Rattle.least.proofs.Firsts.{whole-settleable}
+use Rattle.least.proofs.Firsts.{filled-settleable}
 use Rattle.min_cost.proofs.Duals.{settled-cheapest}
 use Rattle.min_cost.proofs.Raises.{Rounds, refillable, ready-raisable, ready-tight, ready-rounds, start-ready, number-le, number-less, raise-ready}
 use Rattle.min_cost.proofs.cheapest.Statement.{statement}
@@ -79,7 +79,7 @@ loop-again c =
 settle-requires : tie.Need-settle-requires Inv-loop μ-loop
 settle-requires c κs =
     let F = c .before .before .before .before .before .loop .inv .filled in
-    whole-settleable _ _ _ _ (none-exposed-complete _ _ _ _ _ _ F (c .before .before .before .if1 .left))
+    filled-settleable F (c .before .before .before .if1 .left)
 
 returns : tie.Need-returns Inv-loop μ-loop
 returns c =

@@ -10,21 +10,24 @@ use Rattle.augment.proofs.Completes.{complete-plan}
 use Rattle.next.proofs.next_plan.Statement.{statement}
 use Rattle.next.proofs.next_plan.Tie as tie
 
+abbrev at-opens : tie.After-adopt → tie.After-shared-slice-known
+at-opens c = c .before .before .before
+
 range : (c : tie.After-shared-slice-known) → (x : ℕ) → x < length (c .before .args .opens .now) → getD (c .before .args .opens .now) x 0 < 2 ^ 64
 range c x h = omega (arith, c .shared-slice-known .given x)
 
 returns : tie.Need-returns
 returns c =
-    let at-adopt = c .before .before .before in
-    let at-start = at-adopt .before .before .before in
-    c .refused .ensures ∙ sym (next-no-plan 64 _ (at-start .before .pre) (range at-start) _ (at-adopt .adopt .ensures .1 (not-true _ (c .before .if1 .taken))))
+    let a = c .before .before .before in
+    let k = at-opens a in
+    c .refused .ensures ∙ sym (next-no-plan 64 _ (k .before .pre) (range k) _ (a .adopt .ensures .1 (not-true _ (c .before .if1 .taken))))
 
 returns-2 : tie.Need-returns-2
 returns-2 c =
-    let at-adopt = c .before .before .before .before in
-    let at-start = at-adopt .before .before .before in
-    c .advance .ensures
-    ∙ sym (next-at 64 _ (at-start .before .pre) (range at-start) _ (complete-plan _ _ _ _ (at-adopt .adopt .ensures .0 (not-false _ (c .before .before .if1 .left)))))
+    let a = c .before .before .before .before in
+    let k = at-opens a in
+    let C = a .adopt .ensures .0 (not-false _ (c .before .before .if1 .left)) in
+    c .advance .ensures ∙ sym (next-at 64 _ (k .before .pre) (range k) _ (complete-plan _ _ _ _ C))
 
 pub next-plan-spec : {M : Type 1} → statement M
 next-plan-spec =
