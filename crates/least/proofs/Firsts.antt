@@ -19,16 +19,15 @@ use Rattle.least.proofs.Shifts.{lt-or}
 
 -- a full table is complete, and no item is before the first
 pub filled-settleable : {w o p : List ℕ} {f e d : ℕ} → Filled w o p f e d → e ≡ 0 → Settleable w o p f 0 0
-filled-settleable {w} {o} {p} {f} {e} {d} F z =
-    record {
-      before = record {
-        complete = none-exposed-complete w o p f e d F z;
-        held = λ k h b. absurd (omega (arith, bit-empty k));
-        only = λ k h b. absurd (omega (arith, bit-empty k));
-        all = λ k h b l. absurd (omega arith);
-      };
-      within = omega arith;
-    }
+filled-settleable {w} {o} {p} {f} {e} {d} F z = record {
+  before = record {
+    complete = none-exposed-complete w o p f e d F z;
+    held = λ k h b. absurd (omega (arith, bit-empty k));
+    only = λ k h b. absurd (omega (arith, bit-empty k));
+    all = λ k h b l. absurd (omega arith);
+  };
+  within = omega arith;
+}
 
 -- where one plan comes before another, at the first item at which they differ
 pub before-item : {w p q : List ℕ} → IsPlan w p → IsPlan w q → Before p q → (i : ℕ) × (i < length w) × Same-to p q i × (at p i < at q i)

@@ -41,18 +41,17 @@ or-later w all i L y h g k l = same-or y i
     (λ d. omega (arith, bit-or all (getD w i 0) k, L y (omega arith) g k l))
 
 pub gathered-turn : {w table : List ℕ} {all i : ℕ} → Gathered w table all i → 0 < i → Gathered w (set table (i - 1) all) (bitOr all (getD w (i - 1) 0)) (i - 1)
-gathered-turn {w} {table} {all} {i} G some =
-    record {
-      few = G .few;
-      size = length-set table (i - 1) all ∙ G .size;
-      within = omega (arith, G .within);
-      open-words = or-later w all (i - 1) (λ y h g. G .open-words y (omega arith) g);
-      words = λ x h g y m n. same-or x (i - 1)
-          (λ e.
-          rw (ap (λ z. getD (set table (i - 1) all) z 0) e ∙ getD-set-same table (i - 1) all 0 (omega (arith, G .size, G .within)))
-          (G .open-words y (omega arith) n))
-          (λ d. rw (getD-set-other table (i - 1) x all 0 d) (G .words x (omega arith) g y m n));
-    }
+gathered-turn {w} {table} {all} {i} G some = record {
+  few = G .few;
+  size = length-set table (i - 1) all ∙ G .size;
+  within = omega (arith, G .within);
+  open-words = or-later w all (i - 1) (λ y h g. G .open-words y (omega arith) g);
+  words = λ x h g y m n. same-or x (i - 1)
+      (λ e.
+      rw (ap (λ z. getD (set table (i - 1) all) z 0) e ∙ getD-set-same table (i - 1) all 0 (omega (arith, G .size, G .within)))
+      (G .open-words y (omega arith) n))
+      (λ d. rw (getD-set-other table (i - 1) x all 0 d) (G .words x (omega arith) g y m n));
+}
 
 -- ---- the slots of the items before x
 
@@ -76,24 +75,18 @@ module _ {w o p : List ℕ} {f x fixed : ℕ} (P : Prefix w o p f x fixed) where
     -- with k they are the slots of the items before the next one
     pub prefix-next : {fixed′ : ℕ} → fixed′ ≡ with fixed k → Prefix w o′ p′ f′ (x + 1) fixed′
     prefix-next e =
-        let M′ = H .complete .all x known in
-        rw e
-        (record {
+        let M′ = H .complete .all x known in rw e (record {
           complete = H .complete;
-          held = λ l h b. same-or l k
-              (λ q. ap (bit f′) (q ∙ sym (H .slot)) ∙ M′ .held)
-              (λ d. H .keeps l h (sym (bit-with-other fixed k l d) ∙ b) .0);
+          held = λ l h b. same-or l k (λ q. ap (bit f′) (q ∙ sym (H .slot)) ∙ M′ .held) (λ d. H .keeps l h (sym (bit-with-other fixed k l d) ∙ b) .0);
           only = λ l h b. same-or l k
               (λ q. omega (arith, ap (own o′) (q ∙ sym (H .slot)) ∙ M′ .owns))
               (λ d. let c = sym (bit-with-other fixed k l d) ∙ b in omega (arith, H .keeps l h c .1, P .only l h c));
           all = λ l h b m.
-              let y = own o′ l in
-              let back = H .complete .table .back l h b in
+              let y = own o′ l in let back = H .complete .table .back l h b in
               same-or y x
               (λ q. ap (bit (with fixed k)) (sym back ∙ ap (at p′) q ∙ H .slot) ∙ bit-with fixed k)
               (λ d.
-              let was : at p y ≡ l = sym (prefix-stays y (omega arith)) ∙ back in
-              let M = P .complete .all y (omega arith) in
+              let was : at p y ≡ l = sym (prefix-stays y (omega arith)) ∙ back in let M = P .complete .all y (omega arith) in
               let c = P .all l h (ap (bit f) (sym was) ∙ M .held) (omega (arith, ap (own o) (sym was) ∙ M .owns)) in
               omega (arith, bit-with-le fixed k l, bit-lt (with fixed k) l));
         })
@@ -117,8 +110,7 @@ module _ {w o p : List ℕ} {f x after fixed s : ℕ} (S : Minimizable w o p f x
   module _ (fits : f < 2 ^ 64) (stays : bitOr (bitAnd after (2 ^ s)) (bitAnd (bitOr after (getD w x 0)) f) ≡ 0) where
     -- no free slot is open to it or to an item after it
     none-free : (k : ℕ) → max (bit after k) (cell w x k) + bit f k ≤ 1
-    none-free k =
-        omega (arith, simp (bit-or, bit-and, bit-empty) at (ap (λ v. bit v k) stays), bit-lt after k, bit-lt (getD w x 0) k, bit-lt f k)
+    none-free k = omega (arith, simp (bit-or, bit-and, bit-empty) at (ap (λ v. bit v k) stays), bit-lt after k, bit-lt (getD w x 0) k, bit-lt f k)
 
     -- and its own to none after it
     own-its : bit after (at p x) ≡ 0
@@ -135,9 +127,7 @@ module _ {w o p : List ℕ} {f x after fixed s : ℕ} (S : Minimizable w o p f x
 
     others-shut : Shut w o (with f (at p x)) fixed others
     others-shut =
-        let T = S .before .complete .table in
-        let s′ = at p x in
-        record {
+        let T = S .before .complete .table in let s′ = at p x in record {
           held = λ k h b. omega (arith, in-others k h, bit-lt (with f s′) k);
           has-fixed = λ k h. same-or (bit fixed k) 1
               (λ b. omega (arith, in-others k h, held-without minimize-fixed k h b))
@@ -170,14 +160,13 @@ module _ {w o p : List ℕ} {f x after fixed s : ℕ} (S : Minimizable w o p f x
         )))
 
     pub minimize-pinned : Lowered w o x (getD w x 0) fixed o p f s
-    minimize-pinned =
-        record {
-          complete = S .before .complete;
-          slot = sym es;
-          from = ap (bit (getD w x 0)) es ∙ has-slot;
-          keeps = λ l h b. (S .before .held l h b, refl);
-          least = λ q Q A b. omega (arith, pinned q Q A);
-        }
+    minimize-pinned = record {
+      complete = S .before .complete;
+      slot = sym es;
+      from = ap (bit (getD w x 0)) es ∙ has-slot;
+      keeps = λ l h b. (S .before .held l h b, refl);
+      least = λ q Q A b. omega (arith, pinned q Q A);
+    }
 
 -- ---- settle: the items from `from` to i have their least slots
 
@@ -198,8 +187,7 @@ module _ {w p₀ : List ℕ} {from : ℕ} {table o p : List ℕ} {f fixed i : �
   settling-few = S .before .complete .table .few
 
   pub settling-end : length w ≤ i → Settled w p₀ from p
-  settling-end h =
-      record { plan = complete-plan w o p f (S .before .complete); same = S .same; least = λ x l g. S .least x l (omega (arith, S .high)) }
+  settling-end h = record { plan = complete-plan w o p f (S .before .complete); same = S .same; least = λ x l g. S .least x l (omega (arith, S .high)) }
 
   module _ (more : i < length w) where
     pub settling-minimizable : Minimizable w o p f i (getD table i 0) fixed
@@ -213,18 +201,17 @@ module _ {w p₀ : List ℕ} {from : ℕ} {table o p : List ℕ} {f fixed i : �
       stays = prefix-stays (S .before) more (lowered-shifted H)
 
       pub settling-turn : {fixed′ : ℕ} → fixed′ ≡ with fixed k → Settling w p₀ from table o′ p′ f′ fixed′ (i + 1)
-      settling-turn e =
-          record {
-            later = S .later;
-            before = prefix-next (S .before) more (lowered-shifted H) e;
-            low = omega (arith, S .low);
-            high = omega arith;
-            same = λ l h. stays l (omega (arith, S .low)) ∙ S .same l h;
-            least = λ x h g q Q A. same-or x i
-                (λ z.
-                let A′ = prefix-agrees (S .before) q (λ l m. A l (omega arith) ∙ stays l m) in
-                omega (arith, H .least q Q A′ (Q .open-cell i more), ap (at p′) z, ap (at q) z, H .slot))
-                (λ d.
-                let u : x < i = omega arith in
-                omega (arith, S .least x h u q Q (λ l m. A l m ∙ stays l (omega arith)), stays x u));
-          }
+      settling-turn e = record {
+        later = S .later;
+        before = prefix-next (S .before) more (lowered-shifted H) e;
+        low = omega (arith, S .low);
+        high = omega arith;
+        same = λ l h. stays l (omega (arith, S .low)) ∙ S .same l h;
+        least = λ x h g q Q A. same-or x i
+            (λ z.
+            let A′ = prefix-agrees (S .before) q (λ l m. A l (omega arith) ∙ stays l m) in
+            omega (arith, H .least q Q A′ (Q .open-cell i more), ap (at p′) z, ap (at q) z, H .slot))
+            (λ d.
+            let u : x < i = omega arith in
+            omega (arith, S .least x h u q Q (λ l m. A l m ∙ stays l (omega arith)), stays x u));
+      }

@@ -34,13 +34,12 @@ module _ {w o p : List ℕ} {f x fixed : ℕ} (K : Fixed w o p f x fixed) where
 
   -- and when x has moved
   pub still-fixed : {may : ℕ} {o′ p′ : List ℕ} {f′ k : ℕ} → Shifted w o x may fixed o′ p′ f′ k → Fixed w o′ p′ f′ x fixed
-  still-fixed H =
-      record {
-        complete = H .complete;
-        known = K .known;
-        held = λ k h b. H .keeps k h b .0;
-        others = λ k h b e. K .others k h b (sym (H .keeps k h b .1) ∙ e);
-      }
+  still-fixed H = record {
+    complete = H .complete;
+    known = K .known;
+    held = λ k h b. H .keeps k h b .0;
+    others = λ k h b e. K .others k h b (sym (H .keeps k h b .1) ∙ e);
+  }
 
   pub slot-small : {q : List ℕ} → IsPlan w q → at q x < 64
   slot-small {q} Q = slot-lt w o p f (K .complete .table) q Q x (K .known)
@@ -48,8 +47,7 @@ module _ {w o p : List ℕ} {f x fixed : ℕ} (K : Fixed w o p f x fixed) where
   -- a plan that leaves them to their holders gives x none of them
   pub not-fixed : {q : List ℕ} → IsPlan w q → Agrees o fixed q → bit fixed (at q x) ≡ 0
   not-fixed {q} Q A =
-      let k = at q x in
-      let h = slot-small Q in
+      let k = at q x in let h = slot-small Q in
       same-or (bit fixed k) 1
       (λ b. absurd (K .others k h b (Q .once (own o k) x (K .complete .table .item k h (K .held k h b)) (K .known) (A k h b))))
       (λ m. omega (arith, bit-lt fixed k))
@@ -72,9 +70,7 @@ module _ {w o p : List ℕ} {f x cand fixed s : ℕ} (S : Shiftable w o p f x ca
 
     pub shift-assignable : Assignable w o p f₁ x cand fixed
     shift-assignable =
-        let K = S .fixed-held in
-        rw f₁-is
-        (record {
+        let K = S .fixed-held in rw f₁-is (record {
           table = leave-table w o p f (K .complete) x (K .known);
           known = K .known;
           exposed = leave-exposed w o p f (K .complete) x (K .known);
@@ -105,8 +101,7 @@ pub record Lowering (w : List ℕ) (x may fixed all : ℕ) (o₀ o p : List ℕ)
 pub lowering-start : {w o p : List ℕ} {f x may fixed all s : ℕ} → Lowerable w o p f x may fixed → fixed < 2 ^ 64 → all ≡ minus may fixed → s ≡ at p x
     → Lowering w x may fixed all o o p f s
 lowering-start {may} {fixed} L fits ea es =
-    let K = L .fixed-held in
-    record {
+    let K = L .fixed-held in record {
       fixed-held = K;
       cells = L .cells;
       outside = λ k h. ap (λ v. bit v k) ea ∙ bit-minus may fixed k fits h;
@@ -137,25 +132,18 @@ module _ {w : List ℕ} {x may fixed all : ℕ} {o₀ o p : List ℕ} {f s : ℕ
     in-cand k h = rw eb (bit-and all (low s) k ∙ ap (λ v. min v (bit (low s) k)) (G .outside k h))
 
     pub lowering-shiftable : Shiftable w o p f x cand fixed
-    lowering-shiftable =
-        record {
-          fixed-held = G .fixed-held;
-          cells = λ k h. omega (arith, in-cand k h, G .cells k h);
-          apart = λ k h. omega (arith, in-cand k h, bit-lt may k, bit-lt fixed k);
-        }
+    lowering-shiftable = record {
+      fixed-held = G .fixed-held;
+      cells = λ k h. omega (arith, in-cand k h, G .cells k h);
+      apart = λ k h. omega (arith, in-cand k h, bit-lt may k, bit-lt fixed k);
+    }
 
     -- none of these can be had
     lowest-now : Stuck w o x cand fixed → Lowered w o₀ x may fixed o p f s
     lowest-now stuck = lowest (G .shifted) (λ q Q A b. lt-or (at q x) s
         (λ l.
         let A′ : Agrees o fixed q = λ k h c. ap (at q) (G .shifted .keeps k h c .1) ∙ A k h c in
-        absurd (omega (
-          arith,
-          stuck q Q A′,
-          in-cand (at q x) (slot-small (G .fixed-held) Q),
-          not-fixed (G .fixed-held) Q A′,
-          bit-low s (at q x) l,
-        )))
+        absurd (omega (arith, stuck q Q A′, in-cand (at q x) (slot-small (G .fixed-held) Q), not-fixed (G .fixed-held) Q A′, bit-low s (at q x) l)))
         (λ m. m))
 
     pub lowering-none : cand ≡ 0 → Lowered w o₀ x may fixed o p f s
@@ -172,15 +160,14 @@ module _ {w : List ℕ} {x may fixed all : ℕ} {o₀ o p : List ℕ} {f s : ℕ
       lowering-less = bit-one-lt s (low s) k (low-lt s) (omega (arith, in-new, H .from, bit-lt (low s) k))
 
       pub lowering-turn : Lowering w x may fixed all o₀ o′ p′ f′ k
-      lowering-turn =
-          record {
-            fixed-held = still-fixed (G .fixed-held) H;
-            cells = G .cells;
-            outside = G .outside;
-            shifted = record {
-              complete = H .complete;
-              slot = H .slot;
-              from = omega (arith, in-new, H .from, bit-lt may k);
-              keeps = λ l g b. (H .keeps l g b .0, H .keeps l g b .1 ∙ G .shifted .keeps l g b .1);
-            };
-          }
+      lowering-turn = record {
+        fixed-held = still-fixed (G .fixed-held) H;
+        cells = G .cells;
+        outside = G .outside;
+        shifted = record {
+          complete = H .complete;
+          slot = H .slot;
+          from = omega (arith, in-new, H .from, bit-lt may k);
+          keeps = λ l g b. (H .keeps l g b .0, H .keeps l g b .1 ∙ G .shifted .keeps l g b .1);
+        };
+      }

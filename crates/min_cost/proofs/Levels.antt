@@ -27,20 +27,18 @@ lifting-start {l} e = record { sweep = sweep-start 66 l e; under-is = refl }
 pub lifting-turn : {l : List ℕ} {d : ℕ} {m : List ℕ} {under x new : ℕ} → Lifting l d m under x → x < 66 → new ≡ select (getD m x 0) d under
     → Lifting l d (set m x new) (getD m x 0) (x + 1)
 lifting-turn {l} {d} {m} {under} {x} L h e =
-    let old = L .sweep .rest x (omega arith) in
-    record {
+    let old = L .sweep .rest x (omega arith) in record {
       sweep = sweep-turn (L .sweep) h (e ∙ ap₂ (λ a b. select a d b) old (L .under-is));
       under-is = old ∙ ap (lower l) (sym (add-one x));
     }
 
 pub lifting-end : {l : List ℕ} {d : ℕ} {m : List ℕ} {under x : ℕ} → d < 2 ^ 64 → Lifting l d m under x → 66 ≤ x → Lifted l d m
-lifting-end {l} {d} hd L hx v N =
-    record {
-      sized = L .sweep .sized;
-      word = λ x k h g.
-          ap (λ z. bit z k) (L .sweep .done x (omega arith))
-          ∙ bit-select (getD l x 0) d (lower l x) k (λ s. delta (v k + s) x) hd g (omega (arith, N .word x k h g)) (lowered x k h g);
-    }
+lifting-end {l} {d} hd L hx v N = record {
+  sized = L .sweep .sized;
+  word = λ x k h g.
+      ap (λ z. bit z k) (L .sweep .done x (omega arith))
+      ∙ bit-select (getD l x 0) d (lower l x) k (λ s. delta (v k + s) x) hd g (omega (arith, N .word x k h g)) (lowered x k h g);
+}
   where
     lowered : (x k : ℕ) → x < 66 → k < 64 → bit (lower l x) k ≡ delta (v k + 1) x
     lowered zero k h g = omega (arith, bit-empty k)
@@ -64,25 +62,22 @@ module _ {w c l u : List ℕ} {up : ℕ} {t : List ℕ} (R : Raisable w c l u t 
     pub dual-room : i < length w → (b : ℕ) → b ≡ bit up i → getD u′ i 0 + b ≤ 64
     dual-room h b e = omega (arith, dual-is b e, R .room i h)
 
-    pub raising-turn : i < length w → (b s : ℕ) → b ≡ bit up i
-        → s ≡ select (getD l (getD u′ i 0 + b + 1) 0) (getD c i 0) (getD l (getD u′ i 0 + b) 0)
+    pub raising-turn : i < length w → (b s : ℕ) → b ≡ bit up i → s ≡ select (getD l (getD u′ i 0 + b + 1) 0) (getD c i 0) (getD l (getD u′ i 0 + b) 0)
         → Raising w c l u up t (set u′ i (getD u′ i 0 + b)) (set t′ i (bitAnd (getD w i 0) s)) (i + 1)
     unfolding tightWord
-    raising-turn h b s eb es =
-        record {
-          item-duals = sweep-turn (S .item-duals) (omega (arith, R .few)) (dual-is b eb);
-          words = sweep-turn (S .words) h (ap (bitAnd (getD w i 0)) es ∙ ap (tightWord l (getD w i 0) (getD c i 0)) (dual-is b eb));
-        }
+    raising-turn h b s eb es = record {
+      item-duals = sweep-turn (S .item-duals) (omega (arith, R .few)) (dual-is b eb);
+      words = sweep-turn (S .words) h (ap (bitAnd (getD w i 0)) es ∙ ap (tightWord l (getD w i 0) (getD c i 0)) (dual-is b eb));
+    }
 
     pub raising-end : length w ≤ i → ((x : ℕ) → x < length w → getD c x 0 < 2 ^ 64) → Raised w c l u up u′ t′
-    raising-end h range =
-        record {
-          range = range;
-          item-duals = S .item-duals .sized;
-          words = S .words .sized;
-          item-dual = λ x g. S .item-duals .done x (omega arith);
-          word = λ x g. S .words .done x (omega arith);
-        }
+    raising-end h range = record {
+      range = range;
+      item-duals = S .item-duals .sized;
+      words = S .words .sized;
+      item-dual = λ x g. S .item-duals .done x (omega arith);
+      word = λ x g. S .words .done x (omega arith);
+    }
 
 -- a cell is tight if it is open and u + 1 is its cost and its slot's number
 pub tight-bit : {l : List ℕ} {v : ℕ → ℕ} → Levels l v → (cells calls u k : ℕ) → calls < 2 ^ 64 → k < 64 → u ≤ 64

@@ -71,15 +71,13 @@ module _ {w c : List ℕ} (S : Square w c) {u v : ℕ → ℕ} {r : ℕ} {t : Li
   exposed-some some z = some (ones-none (length t) e (F .items) z)
 
   pub raised-duals : e ≢ 0 → {s : ℕ} → s ≡ ones e → Duals w c u₁ v₁ (r + s)
-  raised-duals some es =
-      record {
-        fair = raised-fair;
-        cap = λ i h. let z = exposed-some some in omega (arith, D .cap i h, bit-lt up i);
-        total =
-            let n = length w in
-            let order = sum-cong (λ i. u₁ i + 1) (λ i. (u i + 1) + bit up i) n (λ i h. omega arith) in
-            omega (arith, order, D .total, up-sum, sum-add (λ i. u i + 1) (bit up) n, sum-add v (bit d) n);
-      }
+  raised-duals some es = record {
+    fair = raised-fair;
+    cap = λ i h. let z = exposed-some some in omega (arith, D .cap i h, bit-lt up i);
+    total =
+        let n = length w in let order = sum-cong (λ i. u₁ i + 1) (λ i. (u i + 1) + bit up i) n (λ i h. omega arith) in
+        omega (arith, order, D .total, up-sum, sum-add (λ i. u i + 1) (bit up) n, sum-add v (bit d) n);
+  }
 
   module _ {t′ : List ℕ} (T′ : Tight w c u₁ v₁ t′) where
     same : length t ≡ length t′
@@ -87,24 +85,23 @@ module _ {w c : List ℕ} (S : Square w c) {u v : ℕ → ℕ} {r : ℕ} {t : Li
 
     -- held cells stay tight
     fillable : Fillable t′ o p f e
-    fillable =
-        record {
-          table = record {
-            few = omega (arith, F .table .few, same);
-            range = T′ .range;
-            owners = F .table .owners;
-            slots = F .table .slots;
-            item = λ k h b. omega (arith, F .table .item k h b, same);
-            open-cell = λ k h b.
-                let q = held-tight k h b in
-                open-tight T′ (own o k) k (holder-known k h b) h (q .0) (omega (arith, q .1, deficient-holder t o p f e d F k h b));
-            back = F .table .back;
-            zeros = λ x h g. F .table .zeros x (omega (arith, same)) g;
-          };
-          items = subst (λ n. e < 2 ^ n) same (F .items);
-          exposed = F .exposed;
-          matched = λ x h b. F .matched x (omega (arith, same)) b;
-        }
+    fillable = record {
+      table = record {
+        few = omega (arith, F .table .few, same);
+        range = T′ .range;
+        owners = F .table .owners;
+        slots = F .table .slots;
+        item = λ k h b. omega (arith, F .table .item k h b, same);
+        open-cell = λ k h b.
+            let q = held-tight k h b in
+            open-tight T′ (own o k) k (holder-known k h b) h (q .0) (omega (arith, q .1, deficient-holder t o p f e d F k h b));
+        back = F .table .back;
+        zeros = λ x h g. F .table .zeros x (omega (arith, same)) g;
+      };
+      items = subst (λ n. e < 2 ^ n) same (F .items);
+      exposed = F .exposed;
+      matched = λ x h b. F .matched x (omega (arith, same)) b;
+    }
 
     -- and so do the cells that were tight to an item that is raised
     still : (i g : ℕ) → i < length t → bit up i ≡ 1 → Within (getD t′ i 0) g → Within (getD t i 0) g
@@ -118,16 +115,15 @@ module _ {w c : List ℕ} (S : Square w c) {u v : ℕ → ℕ} {r : ℕ} {t : Li
         (λ m. omega (arith, bit-lt (getD t i 0) k))
 
     pub refillable : Refillable t′ o p f e d
-    refillable =
-        record {
-          fillable = fillable;
-          held = F .dead .held;
-          reachable = λ g near far. F .dead .least g
-              (λ x h b. still x g h (omega (arith, bit-or e (holders o d) x, bit-lt (holders o d) x)) (near x (omega (arith, same)) b))
-              (λ k h b c.
-              let z = F .dead .held k h c in
-              still (own o k) g (F .table .item k h z) (deficient-holder t o p f e d F k h z ∙ c) (far k h b c));
-        }
+    refillable = record {
+      fillable = fillable;
+      held = F .dead .held;
+      reachable = λ g near far. F .dead .least g
+          (λ x h b. still x g h (omega (arith, bit-or e (holders o d) x, bit-lt (holders o d) x)) (near x (omega (arith, same)) b))
+          (λ k h b c.
+          let z = F .dead .held k h c in
+          still (own o k) g (F .table .item k h z) (deficient-holder t o p f e d F k h z ∙ c) (far k h b c));
+    }
 
 -- ---- the loop
 
@@ -150,60 +146,56 @@ pub record Rounds (w c t y l o p : List ℕ) (f e d r : ℕ) : Type 0 where
 module _ {w c : List ℕ} (S : Square w c) where
   module _ {l y : List ℕ} {up : ℕ} {u v : ℕ → ℕ} {r : ℕ} (A : Ready w c l y up u v r) where
     pub ready-raisable : {t : List ℕ} → length t ≡ length w → Raisable w c l y t up
-    ready-raisable e =
-        record {
-          few = S .few;
-          same = S .same;
-          levels = A .levels .sized;
-          item-duals = A .item-duals;
-          words = e;
-          room = λ i h. omega (arith, A .item-dual i h, A .small i h);
-        }
+    ready-raisable e = record {
+      few = S .few;
+      same = S .same;
+      levels = A .levels .sized;
+      item-duals = A .item-duals;
+      words = e;
+      room = λ i h. omega (arith, A .item-dual i h, A .small i h);
+    }
 
     module _ {y′ t : List ℕ} (R : Raised w c l y up y′ t) where
       pub ready-tight : Tight w c u v t
       unfolding tightWord
-      ready-tight =
-          record {
-            sized = R .words;
-            range = λ i h. let g : i < length w = omega (arith, R .words) in rw (R .word i g) (lt-of-le-of-lt (and-le-l (getD w i 0) _) (open-range S i g));
-            word = λ i k h g.
-                ap (λ z. bit z k) (R .word i h ∙ ap (tightWord l (getD w i 0) (getD c i 0)) (A .item-dual i h))
-                ∙ tight-bit (A .levels) (getD w i 0) (getD c i 0) (u i) k (R .range i h) g (A .small i h);
-          }
+      ready-tight = record {
+        sized = R .words;
+        range = λ i h. let g : i < length w = omega (arith, R .words) in rw (R .word i g) (lt-of-le-of-lt (and-le-l (getD w i 0) _) (open-range S i g));
+        word = λ i k h g.
+            ap (λ z. bit z k) (R .word i h ∙ ap (tightWord l (getD w i 0) (getD c i 0)) (A .item-dual i h))
+            ∙ tight-bit (A .levels) (getD w i 0) (getD c i 0) (u i) k (R .range i h) g (A .small i h);
+      }
 
       pub ready-rounds : {o p : List ℕ} {f e d : ℕ} → Filled t o p f e d → Rounds w c t y′ l o p f e d r
-      ready-rounds F =
-          record {
-            u = u;
-            v = v;
-            ready = record {
-              duals = A .duals;
-              levels = A .levels;
-              item-duals = R .item-duals;
-              item-dual = λ i h. omega (arith, R .item-dual i h, A .item-dual i h, bit-empty i);
-              small = A .small;
-            };
-            tight = ready-tight;
-            filled = F;
-          }
+      ready-rounds F = record {
+        u = u;
+        v = v;
+        ready = record {
+          duals = A .duals;
+          levels = A .levels;
+          item-duals = R .item-duals;
+          item-dual = λ i h. omega (arith, R .item-dual i h, A .item-dual i h, bit-empty i);
+          small = A .small;
+        };
+        tight = ready-tight;
+        filled = F;
+      }
 
   -- all numbers are 1
   pub start-ready : {all : ℕ} → all ≡ low 64 → Ready w c (set (replicate 66 0) 1 all) (replicate 64 0) 0 (λ i. 0) (λ k. 1) 0
-  start-ready {all} A =
-      record {
-        duals = record { fair = λ i k h g b. omega arith; cap = λ i h. omega arith; total = sym (add-zero (sum (λ k. 1) (length w))) };
-        levels = record {
-          sized = refl;
-          word = λ x k h g. same-or x 1
-              (λ q. omega (arith, ap (λ z. bit (getD (set (replicate 66 0) 1 all) z 0) k) q, ap (λ z. bit z k) A, bit-low 64 k g))
-              (λ m.
-              omega (arith, ap (λ z. bit z k) (getD-set-other (replicate 66 0) 1 x all 0 m ∙ getD-replicate 66 x 0 0 h), bit-empty k));
-        };
-        item-duals = refl;
-        item-dual = λ i h. omega (arith, getD-replicate {A = ℕ} 64 i 0 0 (omega (arith, S .few)), bit-empty i);
-        small = λ i h. omega arith;
-      }
+  start-ready {all} A = record {
+    duals = record { fair = λ i k h g b. omega arith; cap = λ i h. omega arith; total = sym (add-zero (sum (λ k. 1) (length w))) };
+    levels = record {
+      sized = refl;
+      word = λ x k h g. same-or x 1
+          (λ q. omega (arith, ap (λ z. bit (getD (set (replicate 66 0) 1 all) z 0) k) q, ap (λ z. bit z k) A, bit-low 64 k g))
+          (λ m.
+          omega (arith, ap (λ z. bit z k) (getD-set-other (replicate 66 0) 1 x all 0 m ∙ getD-replicate 66 x 0 0 h), bit-empty k));
+    };
+    item-duals = refl;
+    item-dual = λ i h. omega (arith, getD-replicate {A = ℕ} 64 i 0 0 (omega (arith, S .few)), bit-empty i);
+    small = λ i h. omega arith;
+  }
 
   -- a round: s items are exposed
   module _ (plan : (q : List ℕ) × IsPlan w q) {t y l o p : List ℕ} {f e d r : ℕ} (K : Rounds w c t y l o p f e d r) (some : e ≢ 0) {s : ℕ}
@@ -220,11 +212,10 @@ module _ {w c : List ℕ} (S : Square w c) where
 
     pub raise-ready : {l′ : List ℕ} {up : ℕ} → Lifted l d l′ → up ≡ bitOr e (holders o d)
         → Ready w c l′ y up (λ i. K .u i + bit (bitOr e (holders o d)) i) (λ k. K .v k + bit d k) (r + s)
-    raise-ready L E =
-        record {
-          duals = grown;
-          levels = L (K .v) (K .ready .levels);
-          item-duals = K .ready .item-duals;
-          item-dual = λ i h. omega (arith, K .ready .item-dual i h, bit-empty i, ap (λ z. bit z i) E);
-          small = λ i h. omega (arith, grown .cap i h, number-le, S .few);
-        }
+    raise-ready L E = record {
+      duals = grown;
+      levels = L (K .v) (K .ready .levels);
+      item-duals = K .ready .item-duals;
+      item-dual = λ i h. omega (arith, K .ready .item-dual i h, bit-empty i, ap (λ z. bit z i) E);
+      small = λ i h. omega (arith, grown .cap i h, number-le, S .few);
+    }

@@ -35,8 +35,7 @@ pub record Advancing (w g o p : List ℕ) (f fixed after i : ℕ) : Type 0 where
 pub advancing-start : {w g o : List ℕ} {f fixed a : ℕ} → f < 2 ^ 64 → Complete w o g f → a ≡ low 64 → fixed ≡ minus a f → Advancing w g o g f fixed 0 (length w)
 advancing-start {o} {f} {fixed} fits C ea ek =
     let in-fixed : (k : ℕ) → k < 64 → bit fixed k ≡ 1 - bit f k = λ k h.
-    rw (ek, ea) (bit-minus (low 64) f k fits h ∙ omega (arith, bit-low 64 k h, bit-lt f k)) in
-    record {
+    rw (ek, ea) (bit-minus (low 64) f k fits h ∙ omega (arith, bit-low 64 k h, bit-lt f k)) in record {
       few = C .table .few;
       slots = refl;
       before = record {
@@ -72,12 +71,8 @@ advancing-slot {i} A some = A .before .complete .all (i - 1) (omega (arith, A .w
 pub advancing-trying : {w g o p : List ℕ} {f fixed after i s fixed′ : ℕ} → Advancing w g o p f fixed after i → 0 < i → s ≡ at g (i - 1)
     → fixed′ ≡ without fixed s → Trying w g o p f fixed′ after (i - 1)
 advancing-trying {w} {g} {o} {fixed} {i} A some es ek =
-    let P = A .before in
-    let C = P .complete in
-    let k₀ = at g (i - 1) in
-    let known : i - 1 < length w = omega (arith, A .within) in
-    rw (ek, es)
-    (record {
+    let P = A .before in let C = P .complete in
+    let k₀ = at g (i - 1) in let known : i - 1 < length w = omega (arith, A .within) in rw (ek, es) (record {
       few = A .few;
       slots = A .slots;
       item = record {
@@ -119,20 +114,18 @@ module _ {w g o p : List ℕ} {f fixed after x : ℕ} (T : Trying w g o p f fixe
 
   -- x can't advance
   pub trying-stuck : {o′ p′ : List ℕ} → Same o p o′ p′ × Stuck w o x (above w p x) fixed → Advancing w g o′ p′ f fixed (bitOr after (getD w x 0)) x
-  trying-stuck r =
-      rw (r .0 .owner)
-      (record {
-        few = T .few;
-        slots = r .0 .slot ∙ T .slots;
-        before = P;
-        within = omega (arith, known);
-        later = or-later w after x (T .item .later);
-        stuck = λ y h l q Q S. same-or y x
-            (λ e. rw e (lt-or (at g x) (at q x)
-            (λ m. absurd (omega (arith, (rw (T .slots) at (r .1)) q Q (prefix-agrees P q (λ z n. S z (omega arith))), above-open Q m)))
-            (λ m. m)))
-            (λ d. T .stuck y (omega arith) l q Q S);
-      })
+  trying-stuck r = rw (r .0 .owner) (record {
+    few = T .few;
+    slots = r .0 .slot ∙ T .slots;
+    before = P;
+    within = omega (arith, known);
+    later = or-later w after x (T .item .later);
+    stuck = λ y h l q Q S. same-or y x
+        (λ e. rw e (lt-or (at g x) (at q x)
+        (λ m. absurd (omega (arith, (rw (T .slots) at (r .1)) q Q (prefix-agrees P q (λ z n. S z (omega arith))), above-open Q m)))
+        (λ m. m)))
+        (λ d. T .stuck y (omega arith) l q Q S);
+  })
 
   -- x has advanced to k
   module _ {o′ p′ : List ℕ} {f′ k : ℕ} (L : Lowered w o x (above w p x) fixed o′ p′ f′ k) where
@@ -173,8 +166,7 @@ module _ {w g o p : List ℕ} {f fixed after x : ℕ} (T : Trying w g o p f fixe
       -- or before it, or after it, which none can
       least : (q : List ℕ) → IsPlan w q → Before g q → (q ≡ r) ⊎ Before r q
       least q Q b =
-          let d = before-item G Q b in
-          let j = d .0 in
+          let d = before-item G Q b in let j = d .0 in
           lt-or j x
           (λ a. inr (before-at (T .few) (S .plan) Q j (d .1) (λ m z. same m (omega arith) ∙ d .2 m z) (omega (arith, d .3, same j a))))
           (λ a. lt-or x j

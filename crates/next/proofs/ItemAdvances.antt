@@ -29,12 +29,11 @@ module _ {w o p : List ℕ} {f x after fixed s : ℕ} (C : Minimizable w o p f x
       ap (bit (above w p x)) (pinned C es fits z q Q A ∙ es) ∙ bit-not-from (getD w x 0) (at p x + 1) (at p x) h (omega arith)
 
   pub rising-start : {l may cand : ℕ} → fixed < 2 ^ 64 → l ≡ low (s + 1) → may ≡ minus (getD w x 0) l → cand ≡ minus may fixed → Rising w o p f x fixed may cand
-  rising-start {may} fits el em ec =
-      record {
-        fixed-held = minimize-fixed C es;
-        may-is = em ∙ ap (minus (getD w x 0)) (el ∙ ap (λ z. low (z + 1)) es);
-        outside = λ k h. ap (λ v. bit v k) ec ∙ bit-minus may fixed k fits h;
-      }
+  rising-start {may} fits el em ec = record {
+    fixed-held = minimize-fixed C es;
+    may-is = em ∙ ap (minus (getD w x 0)) (el ∙ ap (λ z. low (z + 1)) es);
+    outside = λ k h. ap (λ v. bit v k) ec ∙ bit-minus may fixed k fits h;
+  }
 
 in-minus : (a b k : ℕ) → bit (minus a b) k ≤ bit a k
 unfolding minus
@@ -55,12 +54,11 @@ module _ {w o p : List ℕ} {f x fixed may cand : ℕ} (R : Rising w o p f x fix
   rising-none z = rising-stuck (λ q Q A. ap (λ v. bit v (at q x)) z ∙ bit-empty (at q x))
 
   pub rising-shiftable : Shiftable w o p f x cand fixed
-  rising-shiftable =
-      record {
-        fixed-held = R .fixed-held;
-        cells = λ k h. omega (arith, R .outside k h, cells k h);
-        apart = λ k h. omega (arith, R .outside k h, bit-lt fixed k, bit-lt may k);
-      }
+  rising-shiftable = record {
+    fixed-held = R .fixed-held;
+    cells = λ k h. omega (arith, R .outside k h, cells k h);
+    apart = λ k h. omega (arith, R .outside k h, bit-lt fixed k, bit-lt may k);
+  }
 
   module _ {o₁ p₁ : List ℕ} {f₁ k : ℕ} (H : Shifted w o x cand fixed o₁ p₁ f₁ k) where
     K : Fixed w o₁ p₁ f₁ x fixed
@@ -77,8 +75,7 @@ module _ {w o p : List ℕ} {f x fixed may cand : ℕ} (R : Rising w o p f x fix
 
       pub rising-lowered : Lowered w o x (above w p x) fixed o₂ p₂ f₂ j
       rising-lowered =
-          let M = rw (R .may-is) at L in
-          record {
+          let M = rw (R .may-is) at L in record {
             complete = M .complete;
             slot = M .slot;
             from = M .from;

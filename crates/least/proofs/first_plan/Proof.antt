@@ -24,8 +24,7 @@ returns c =
 
 returns-2 : tie.Need-returns-2
 returns-2 c =
-    let at-fill = c .before .before .before in
-    let k = at-opens (at-fill .before) in
+    let at-fill = c .before .before .before in let k = at-opens (at-fill .before) in
     c .no-plan .ensures ∙ first-none _ (k .before .pre) (range k) (at-fill .fill .ensures) (c .before .before .if1 .left)
 
 pub first-plan-spec : {M : Type 1} → statement M

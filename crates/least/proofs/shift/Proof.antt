@@ -6,8 +6,7 @@ use Rattle.least.proofs.shift.Tie as tie
 
 returns : tie.Need-returns
 returns c =
-    let at-with = c .before in
-    let at-wide = at-with .before .before .before in
+    let at-with = c .before in let at-wide = at-with .before .before .before in
     let S = at-wide .before .before .before .pre in (
       λ n. shift-found S (at-wide .wide .ensures) (at-with .with .ensures) (c .assign .ensures .0 n),
       λ z. let r = c .assign .ensures .1 z in (r .0, shift-stuck S (at-wide .wide .ensures) (at-with .with .ensures) (r .1)),

@@ -28,10 +28,8 @@ start-of c = start (c .before .before .before .before .before .before .before .b
 
 fill-requires : tie.Need-fill-requires Inv-loop μ-loop
 fill-requires c κs =
-    let a = c .before .before .before .before .before .before in
-    let b = a .before .before .before .before in
-    let S = start b .pre .0 in
-    let R = a .raise .ensures in
+    let a = c .before .before .before .before .before .before in let b = a .before .before .before .before in
+    let S = start b .pre .0 in let R = a .raise .ensures in
     rw (b .low .ensures)
     (all-fillable _ (omega (arith, R .words, S .few)) (ready-tight S (start-ready S (b .low .ensures)) R .range) _ (c .low2 .ensures ∙ ap low (sym (R .words))))
 
@@ -43,19 +41,15 @@ number-room c =
 
 raise-requires-2 : tie.Need-raise-requires-2 Inv-loop μ-loop
 raise-requires-2 c κs =
-    let f = c .before .before .before in
-    let s = f .before .before .before .before in
-    let l = s .before .before .before in
-    let P = start-of l .pre in
+    let f = c .before .before .before in let s = f .before .before .before .before in
+    let l = s .before .before .before in let P = start-of l .pre in
     ready-raisable (P .0) (raise-ready (P .0) (P .1) (l .loop .inv) (s .before .if1 .taken) (s .size .ensures) (f .lift .ensures) (f .before .before .deficient-set .ensures))
     (l .loop .inv .tight .sized)
 
 refill-requires : tie.Need-refill-requires Inv-loop μ-loop
 refill-requires c κs =
-    let a = c .before .before .before .before .before in
-    let f = a .before .before .before .before in
-    let s = f .before .before .before .before in
-    let K = s .before .before .before .loop .inv in
+    let a = c .before .before .before .before .before in let f = a .before .before .before .before in
+    let s = f .before .before .before .before in let K = s .before .before .before .loop .inv in
     let P = start-of (s .before .before .before) .pre in
     refillable (P .0) (K .ready .duals) (K .tight) (K .filled)
     (ready-tight (P .0) (raise-ready (P .0) (P .1) K (s .before .if1 .taken) (s .size .ensures) (f .lift .ensures) (f .before .before .deficient-set .ensures)) (a .raise2 .ensures))
@@ -68,18 +62,14 @@ loop-less c =
 
 loop-again : tie.Need-loop-again Inv-loop μ-loop
 loop-again c =
-    let a = c .before .before .before .before .before .before in
-    let f = a .before .before .before .before in
-    let s = f .before .before .before .before in
-    let l = s .before .before .before in
+    let a = c .before .before .before .before .before .before in let f = a .before .before .before .before in
+    let s = f .before .before .before .before in let l = s .before .before .before in
     let P = start-of l .pre in
     ready-rounds (P .0) (raise-ready (P .0) (P .1) (l .loop .inv) (s .before .if1 .taken) (s .size .ensures) (f .lift .ensures) (f .before .before .deficient-set .ensures))
     (a .raise2 .ensures) (c .refill .ensures)
 
 settle-requires : tie.Need-settle-requires Inv-loop μ-loop
-settle-requires c κs =
-    let F = c .before .before .before .before .before .loop .inv .filled in
-    filled-settleable F (c .before .before .before .if1 .left)
+settle-requires c κs = let F = c .before .before .before .before .before .loop .inv .filled in filled-settleable F (c .before .before .before .if1 .left)
 
 returns : tie.Need-returns Inv-loop μ-loop
 returns c =

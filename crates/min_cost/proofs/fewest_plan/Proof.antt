@@ -29,8 +29,7 @@ returns c =
 
 cheapest-requires : tie.Need-cheapest-requires
 cheapest-requires c κs =
-    let F = c .before .before in
-    let S = start F .pre in
+    let F = c .before .before in let S = start F .pre in
     (S, (_, complete-plan _ _ _ _ (none-exposed-complete _ _ _ _ _ _ (F .fill .ensures) (c .before .if1 .left))), length-take-le _ (replicate 64 0) (S .few))
 
 cast-number : tie.Need-cast-number

@@ -18,14 +18,11 @@ abbrev start : (c : tie.At-loop Inv-loop μ-loop) → tie.Start Inv-loop μ-loop
 start c = c .before .before .before .before
 
 room : (c : tie.After-bit Inv-loop μ-loop) → let l = c .before .before .before .loop in getD (l .dual) (l .i) 0 + c .bit .result ≤ 64
-room c =
-    let l = c .before .before .before in
-    dual-room (start l .pre) (l .loop .inv) (c .before .before .loop-test .taken) _ (c .bit .ensures)
+room c = let l = c .before .before .before in dual-room (start l .pre) (l .loop .inv) (c .before .before .loop-test .taken) _ (c .bit .ensures)
 
 loop-again : tie.Need-loop-again Inv-loop μ-loop
 loop-again c =
-    let b = c .before .before .before .before .before in
-    let l = b .before .before .before in
+    let b = c .before .before .before .before .before in let l = b .before .before .before in
     raising-turn (start l .pre) (l .loop .inv) (b .before .before .loop-test .taken) _ _ (b .bit .ensures) (c .select .ensures)
 
 pub raise-spec : {M : Type 1} → statement M

@@ -32,8 +32,7 @@ settle-requires c κs =
 
 returns : tie.Need-returns Inv-loop μ-loop
 returns c =
-    let s = c .before in
-    let m = at-item (s .before .before) in
+    let s = c .before in let m = at-item (s .before .before) in
     c .given .ensures ∙ trying-found (trying (at-without m)) (m .advance-item .ensures .0 (s .before .before .before .before .if1 .taken)) (s .settle .ensures)
 
 pub advance-spec : {M : Type 1} → statement M

@@ -24,8 +24,7 @@ slot c = minimize-slot (at-start c .pre) (c .wide .ensures)
 rising : (c : tie.After-minus2) → let a = at-start (at-wide (c .before .before .before)) .args in
     Rising (a .opens .now) (a .owner .now) (a .slot .now) (a .free) (a .x) (a .fixed) (c .before .minus .result) (c .minus2 .result)
 rising c =
-    let low = c .before .before in
-    let w = at-wide (low .before) in
+    let low = c .before .before in let w = at-wide (low .before) in
     rising-start (at-start w .pre) (w .wide .ensures) (at-start w .fits .fixed .fits) (low .low .ensures) (c .before .minus .ensures) (c .minus2 .ensures)
 
 returns : tie.Need-returns
@@ -45,8 +44,7 @@ returns-3 c =
 
 returns-4 : tie.Need-returns-4
 returns-4 c =
-    let s = c .before .before .before .before .before in
-    let R = rising (at-minus2 s) in
+    let s = c .before .before .before .before .before in let R = rising (at-minus2 s) in
     let H = s .shift .ensures .0 (c .before .before .before .if3 .left) in
     (λ n. rising-lowered R H (c .lower .ensures), λ e. absurd (omega (arith, rising-below R H (c .lower .ensures))))
 
