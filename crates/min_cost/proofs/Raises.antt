@@ -21,6 +21,7 @@ use Rattle.augment.specs.Search.{Within}
 use Rattle.augment.proofs.Moves.{same-or}
 use Rattle.maximum.specs.Maximum.{Fillable, Filled, Refillable, holders}
 use Rattle.maximum.proofs.Deficient.{deficient-lt, deficient-ones, deficient-shut, deficient-holder}
+use Rattle.maximum.proofs.Filling.{all-fillable}
 use Rattle.min_cost.specs.Dual.{Square, Levels, Lifted, tightWord, Raisable, Raised}
 use Rattle.min_cost.proofs.Levels.{tight-bit}
 use Rattle.min_cost.proofs.Duals.{Duals, Tight, open-range, tight-open, open-tight, slot-below, bound}
@@ -46,11 +47,10 @@ module _ {w c : List ℕ} (S : Square w c) {u v : ℕ → ℕ} {r : ℕ} {t : Li
   held-tight k h b = tight-open T (own o k) k (holder-known k h b) h (F .table .open-cell k h b)
 
   dead-lt : d < 2 ^ length w
-  dead-lt = high-empty 64 d (length w) (F .dead .fits) (λ k g h. same-or (bit d k) 1
-      (λ b.
-      let z = F .dead .held k h b in
-      absurd (omega (arith, slot-below S (own o k) (holder-known k h z) k (held-tight k h z .0))))
-      (λ m. omega (arith, bit-lt d k)))
+  dead-lt = high-empty 64 d (length w) (F .dead .fits) (λ k g h. same-or (bit d k) 0 (λ e. e)
+      (λ m.
+      let z = F .dead .held k h (omega (arith, bit-lt d k)) in
+      absurd (omega (arith, slot-below S (own o k) (holder-known k h z) k (held-tight k h z .0)))))
 
   -- an item that is raised has no tight cell outside the dead slots
   raised-fair : (i k : ℕ) → i < length w → k < 64 → cell w i k ≡ 1 → u₁ i + 1 ≤ cell c i k + v₁ k
@@ -67,155 +67,166 @@ module _ {w c : List ℕ} (S : Square w c) {u v : ℕ → ℕ} {r : ℕ} {t : Li
       ap (sum (bit up)) (sym (T .sized)) ∙ sym (ones-sum (length t) up (deficient-lt t o p f e d F)) ∙ deficient-ones t o p f e d F
       ∙ ap (ones e +_) (ones-sum (length w) d dead-lt)
 
-  pub exposed-some : e ≢ 0 → ones e ≢ 0
-  exposed-some some z = some (ones-none (length t) e (F .items) z)
+  module _ (some : e ≢ 0) {s : ℕ} (es : s ≡ ones e) where
+    pub exposed-some : s ≢ 0
+    exposed-some z = some (ones-none (length t) e (F .items) (sym es ∙ z))
 
-  pub raised-duals : e ≢ 0 → {s : ℕ} → s ≡ ones e → Duals w c u₁ v₁ (r + s)
-  raised-duals some es = record {
-    fair = raised-fair;
-    cap = λ i h. let z = exposed-some some in omega (arith, D .cap i h, bit-lt up i);
-    total =
-        let n = length w in let order = sum-cong (λ i. u₁ i + 1) (λ i. (u i + 1) + bit up i) n (λ i h. omega arith) in
-        omega (arith, order, D .total, up-sum, sum-add (λ i. u i + 1) (bit up) n, sum-add v (bit d) n);
-  }
+    pub raised-duals : Duals w c u₁ v₁ (r + s)
+    raised-duals = record {
+      fair = raised-fair;
+      cap = λ i h. let z = exposed-some in omega (arith, D .cap i h, bit-lt up i);
+      total =
+          let n = length w in let order = sum-cong (λ i. u₁ i + 1) (λ i. (u i + 1) + bit up i) n (λ i h. omega arith) in
+          omega (arith, order, D .total, up-sum, sum-add (λ i. u i + 1) (bit up) n, sum-add v (bit d) n);
+    }
 
   module _ {t′ : List ℕ} (T′ : Tight w c u₁ v₁ t′) where
     same : length t ≡ length t′
     same = T .sized ∙ sym (T′ .sized)
 
-    -- held cells stay tight
-    fillable : Fillable t′ o p f e
-    fillable = record {
-      table = record {
-        few = omega (arith, F .table .few, same);
-        range = T′ .range;
-        owners = F .table .owners;
-        slots = F .table .slots;
-        item = λ k h b. omega (arith, F .table .item k h b, same);
-        open-cell = λ k h b.
-            let q = held-tight k h b in
-            open-tight T′ (own o k) k (holder-known k h b) h (q .0) (omega (arith, q .1, deficient-holder t o p f e d F k h b));
-        back = F .table .back;
-        zeros = λ x h g. F .table .zeros x (omega (arith, same)) g;
-      };
-      items = subst (λ n. e < 2 ^ n) same (F .items);
-      exposed = F .exposed;
-      matched = λ x h b. F .matched x (omega (arith, same)) b;
-    }
+    -- cells stay tight that are held
+    still-held : (k : ℕ) → k < 64 → bit f k ≡ 0 → cell t′ (own o k) k ≡ 1
+    still-held k h b =
+        let q = held-tight k h b in
+        open-tight T′ (own o k) k (holder-known k h b) h (q .0) (omega (arith, q .1, deficient-holder t o p f e d F k h b))
 
-    -- and so do the cells that were tight to an item that is raised
+    -- or were tight to an item that is raised
     still : (i g : ℕ) → i < length t → bit up i ≡ 1 → Within (getD t′ i 0) g → Within (getD t i 0) g
-    still i g h a near k l =
-        let known : i < length w = omega (arith, T .sized) in
-        same-or (cell t i k) 1
+    still i g h a near k l = same-or (cell t i k) 1
         (λ z.
-        let q = tight-open T i k known l z in
+        let known : i < length w = omega (arith, T .sized) in let q = tight-open T i k known l z in
         let b : bit d k ≡ 1 = omega (arith, deficient-shut t o p f e d F i h a k l, bit-lt d k) in
         omega (arith, open-tight T′ i k known l (q .0) (omega (arith, q .1)), near k l))
         (λ m. omega (arith, bit-lt (getD t i 0) k))
 
     pub refillable : Refillable t′ o p f e d
     refillable = record {
-      fillable = fillable;
+      fillable = record {
+        table = record {
+          few = omega (arith, F .table .few, same);
+          range = T′ .range;
+          owners = F .table .owners;
+          slots = F .table .slots;
+          item = λ k h b. omega (arith, F .table .item k h b, same);
+          open-cell = still-held;
+          back = F .table .back;
+          zeros = λ x h g. F .table .zeros x (omega (arith, same)) g;
+        };
+        items = subst (λ n. e < 2 ^ n) same (F .items);
+        exposed = F .exposed;
+        matched = λ x h b. F .matched x (omega (arith, same)) b;
+      };
       held = F .dead .held;
       reachable = λ g near far. F .dead .least g
           (λ x h b. still x g h (omega (arith, bit-or e (holders o d) x, bit-lt (holders o d) x)) (near x (omega (arith, same)) b))
-          (λ k h b c.
-          let z = F .dead .held k h c in
-          still (own o k) g (F .table .item k h z) (deficient-holder t o p f e d F k h z ∙ c) (far k h b c));
+          (λ k h b c. let z = F .dead .held k h c in still (own o k) g (F .table .item k h z) (deficient-holder t o p f e d F k h z ∙ c) (far k h b c));
     }
 
 -- ---- the loop
 
 -- duals, the levels l of the slots, and the array y of the items' duals, of which those of up are yet to grow
 pub record Ready (w c l y : List ℕ) (up : ℕ) (u v : ℕ → ℕ) (r : ℕ) : Type 0 where
+  pub square : Square w c
   pub duals : Duals w c u v r
   pub levels : Levels l v
   pub item-duals : length y ≡ 64
   pub item-dual : (i : ℕ) → i < length w → getD y i 0 + bit up i ≡ u i
   pub small : (i : ℕ) → i < length w → u i ≤ 64
 
--- and a maximum matching of the tight cells
+-- and a maximum matching of the tight cells, where a plan exists
 pub record Rounds (w c t y l o p : List ℕ) (f e d r : ℕ) : Type 0 where
+  pub plan : (q : List ℕ) × IsPlan w q
   pub u : ℕ → ℕ
   pub v : ℕ → ℕ
   pub ready : Ready w c l y 0 u v r
   pub tight : Tight w c u v t
   pub filled : Filled t o p f e d
 
-module _ {w c : List ℕ} (S : Square w c) where
-  module _ {l y : List ℕ} {up : ℕ} {u v : ℕ → ℕ} {r : ℕ} (A : Ready w c l y up u v r) where
-    pub ready-raisable : {t : List ℕ} → length t ≡ length w → Raisable w c l y t up
-    ready-raisable e = record {
-      few = S .few;
-      same = S .same;
-      levels = A .levels .sized;
-      item-duals = A .item-duals;
-      words = e;
-      room = λ i h. omega (arith, A .item-dual i h, A .small i h);
+module _ {w c l y : List ℕ} {up : ℕ} {u v : ℕ → ℕ} {r : ℕ} (A : Ready w c l y up u v r) where
+  pub ready-raisable : {t : List ℕ} → length t ≡ length w → Raisable w c l y t up
+  ready-raisable e = record {
+    few = A .square .few;
+    same = A .square .same;
+    levels = A .levels .sized;
+    item-duals = A .item-duals;
+    words = e;
+    room = λ i h. omega (arith, A .item-dual i h, A .small i h);
+  }
+
+  module _ {y′ t : List ℕ} (R : Raised w c l y up y′ t) where
+    pub ready-tight : Tight w c u v t
+    unfolding tightWord
+    ready-tight = record {
+      sized = R .words;
+      range = λ i h.
+          let g : i < length w = omega (arith, R .words) in
+          rw (R .word i g) (lt-of-le-of-lt (and-le-l (getD w i 0) _) (open-range (A .square) i g));
+      word = λ i k h g.
+          ap (λ z. bit z k) (R .word i h ∙ ap (tightWord l (getD w i 0) (getD c i 0)) (A .item-dual i h))
+          ∙ tight-bit (A .levels) (getD w i 0) (getD c i 0) (u i) k (R .range i h) g (A .small i h);
     }
 
-    module _ {y′ t : List ℕ} (R : Raised w c l y up y′ t) where
-      pub ready-tight : Tight w c u v t
-      unfolding tightWord
-      ready-tight = record {
-        sized = R .words;
-        range = λ i h. let g : i < length w = omega (arith, R .words) in rw (R .word i g) (lt-of-le-of-lt (and-le-l (getD w i 0) _) (open-range S i g));
-        word = λ i k h g.
-            ap (λ z. bit z k) (R .word i h ∙ ap (tightWord l (getD w i 0) (getD c i 0)) (A .item-dual i h))
-            ∙ tight-bit (A .levels) (getD w i 0) (getD c i 0) (u i) k (R .range i h) g (A .small i h);
-      }
+    pub ready-rounds : (q : List ℕ) × IsPlan w q → {o p : List ℕ} {f e d : ℕ} → Filled t o p f e d → Rounds w c t y′ l o p f e d r
+    ready-rounds plan F = record {
+      plan = plan;
+      u = u;
+      v = v;
+      ready = record {
+        square = A .square;
+        duals = A .duals;
+        levels = A .levels;
+        item-duals = R .item-duals;
+        item-dual = λ i h. omega (arith, R .item-dual i h, A .item-dual i h, bit-empty i);
+        small = A .small;
+      };
+      tight = ready-tight;
+      filled = F;
+    }
 
-      pub ready-rounds : {o p : List ℕ} {f e d : ℕ} → Filled t o p f e d → Rounds w c t y′ l o p f e d r
-      ready-rounds F = record {
-        u = u;
-        v = v;
-        ready = record {
-          duals = A .duals;
-          levels = A .levels;
-          item-duals = R .item-duals;
-          item-dual = λ i h. omega (arith, R .item-dual i h, A .item-dual i h, bit-empty i);
-          small = A .small;
-        };
-        tight = ready-tight;
-        filled = F;
-      }
-
-  -- all numbers are 1
-  pub start-ready : {all : ℕ} → all ≡ low 64 → Ready w c (set (replicate 66 0) 1 all) (replicate 64 0) 0 (λ i. 0) (λ k. 1) 0
-  start-ready {all} A = record {
+-- all numbers are 1 at first
+module _ {w c : List ℕ} (S : Square w c) {all : ℕ} (A : all ≡ low 64) where
+  pub start-ready : Ready w c (set (replicate 66 0) 1 all) (replicate 64 0) 0 (λ i. 0) (λ k. 1) 0
+  start-ready = record {
+    square = S;
     duals = record { fair = λ i k h g b. omega arith; cap = λ i h. omega arith; total = sym (add-zero (sum (λ k. 1) (length w))) };
     levels = record {
       sized = refl;
       word = λ x k h g. same-or x 1
           (λ q. omega (arith, ap (λ z. bit (getD (set (replicate 66 0) 1 all) z 0) k) q, ap (λ z. bit z k) A, bit-low 64 k g))
-          (λ m.
-          omega (arith, ap (λ z. bit z k) (getD-set-other (replicate 66 0) 1 x all 0 m ∙ getD-replicate 66 x 0 0 h), bit-empty k));
+          (λ m. omega (arith, ap (λ z. bit z k) (getD-set-other (replicate 66 0) 1 x all 0 m ∙ getD-replicate 66 x 0 0 h), bit-empty k));
     };
     item-duals = refl;
     item-dual = λ i h. omega (arith, getD-replicate {A = ℕ} 64 i 0 0 (omega (arith, S .few)), bit-empty i);
     small = λ i h. omega arith;
   }
 
-  -- a round: s items are exposed
-  module _ (plan : (q : List ℕ) × IsPlan w q) {t y l o p : List ℕ} {f e d r : ℕ} (K : Rounds w c t y l o p f e d r) (some : e ≢ 0) {s : ℕ}
-      (es : s ≡ ones e) where
-    grown : Duals w c (λ i. K .u i + bit (bitOr e (holders o d)) i) (λ k. K .v k + bit d k) (r + s)
-    grown = raised-duals S (K .ready .duals) (K .tight) (K .filled) some es
+  pub start-fillable : {y t : List ℕ} {wanting : ℕ} → Raised w c (set (replicate 66 0) 1 all) (replicate 64 0) 0 y t → wanting ≡ low (length w)
+      → Fillable t (replicate 64 0) (replicate 64 0) all wanting
+  start-fillable {t} {wanting} R E =
+      rw A (all-fillable t (omega (arith, R .words, S .few)) (ready-tight start-ready R .range) wanting (E ∙ ap low (sym (R .words))))
 
-    -- the number grows, and not beyond the number of items
-    pub number-le : r + s ≤ length w
-    number-le = omega (arith, bound S grown (plan .0) (plan .1), callouts-le c (plan .0), S .same)
+-- a round: s items are exposed
+module _ {w c t y l o p : List ℕ} {f e d r : ℕ} (K : Rounds w c t y l o p f e d r) (some : e ≢ 0) {s : ℕ} (es : s ≡ ones e) where
+  grown : Duals w c (λ i. K .u i + bit (bitOr e (holders o d)) i) (λ k. K .v k + bit d k) (r + s)
+  grown = raised-duals (K .ready .square) (K .ready .duals) (K .tight) (K .filled) some es
 
-    pub number-less : length w - (r + s) < length w - r
-    number-less = let z = exposed-some S (K .ready .duals) (K .tight) (K .filled) some in omega (arith, number-le)
+  -- the number grows, and not beyond the number of items
+  pub number-le : r + s ≤ length w
+  number-le = omega (arith, bound (K .ready .square) grown (K .plan .0) (K .plan .1), callouts-le c (K .plan .0), K .ready .square .same)
 
-    pub raise-ready : {l′ : List ℕ} {up : ℕ} → Lifted l d l′ → up ≡ bitOr e (holders o d)
-        → Ready w c l′ y up (λ i. K .u i + bit (bitOr e (holders o d)) i) (λ k. K .v k + bit d k) (r + s)
-    raise-ready L E = record {
+  pub number-less : length w - (r + s) < length w - r
+  number-less = let z = exposed-some (K .ready .square) (K .ready .duals) (K .tight) (K .filled) some es in omega (arith, number-le)
+
+  module _ {l′ : List ℕ} {up : ℕ} (L : Lifted l d l′) (E : up ≡ bitOr e (holders o d)) where
+    pub round-ready : Ready w c l′ y up (λ i. K .u i + bit (bitOr e (holders o d)) i) (λ k. K .v k + bit d k) (r + s)
+    round-ready = record {
+      square = K .ready .square;
       duals = grown;
       levels = L (K .v) (K .ready .levels);
       item-duals = K .ready .item-duals;
       item-dual = λ i h. omega (arith, K .ready .item-dual i h, bit-empty i, ap (λ z. bit z i) E);
-      small = λ i h. omega (arith, grown .cap i h, number-le, S .few);
+      small = λ i h. omega (arith, grown .cap i h, number-le, K .ready .square .few);
     }
+
+    pub round-refillable : {y′ t′ : List ℕ} → Raised w c l′ y up y′ t′ → Refillable t′ o p f e d
+    round-refillable R = refillable (K .ready .square) (K .ready .duals) (K .tight) (K .filled) (ready-tight round-ready R)
