@@ -4,6 +4,7 @@ use mathlib.Core.List.{List}
 use Prim.Native.Nat.{ℕ}
 use lib.ListN.{length, take}
 use denote.Ref.{now}
+use Rattle.model.specs.declared.Edition.{Edition}
 use Rattle.model.specs.declared.Plan.{Plan}
 use Rattle.model.specs.declared.PlanAnswer.{PlanAnswer}
 use Rattle.model.specs.declared.Lister.{Lister}
@@ -72,31 +73,31 @@ unfolding EachPrice
 price-each Q f κs a r s l = subst₂ (Q _ _ _ _ _) (sym (l .0)) (sym (l .1)) (f _ _ _ _ _)
 
 pub read-each : {Q : List ℕ → List ℕ → List ℕ → ReadAnswer → List ℕ → List ℕ → Type 0}
-    → ((file o k : List ℕ) (r : ReadAnswer) (o′ k′ : List ℕ) → r ≡ readAnswer file (length o) (length k) → o′ ≡ readOpens file o k
-    → k′ ≡ readCallouts file o k → Q file o k r o′ k′) → EachRead Q
+    → ((file o k : List ℕ) (r : ReadAnswer) (o′ k′ : List ℕ) → r ≡ readAnswer Edition.One file (length o) (length k) → o′ ≡ readOpens Edition.One file o k
+    → k′ ≡ readCallouts Edition.One file o k → Q file o k r o′ k′) → EachRead Q
 unfolding EachRead
 read-each f κs a r s l = f (now (a .0)) (now (a .1 .0)) (now (a .1 .1 .0)) r (now (s .1 .0)) (now (s .1 .1 .0)) (l .0) (l .1 .0) (l .1 .1)
 
 pub write-each : {Q : ℕ → List ℕ → List ℕ → List ℕ → WriteAnswer → List ℕ → Type 0}
     → ((n : ℕ) (opens callouts old : List ℕ) (r : WriteAnswer) (new : List ℕ) → r ≡ writeAnswer n n opens callouts (length old)
-    → new ≡ writeFile n n opens callouts old → Q n opens callouts old r new) → EachWrite Q
+    → new ≡ writeFile Edition.One n n opens callouts old → Q n opens callouts old r new) → EachWrite Q
 unfolding EachWrite
 write-each f κs a r s l = f (a .0) (now (a .1 .0)) (now (a .1 .1 .0)) (now (a .1 .1 .1 .0)) r (now (s .1 .1 .1 .0)) (l .0) (l .1)
 
 pub file-first-each : {Q : List ℕ → List ℕ → ℕ → List ℕ → Type 0}
-    → ((file old : List ℕ) (r : ℕ) (new : List ℕ) → r ≡ fileFirst file (length old) .code → new ≡ bufferAfter (fileFirst file (length old)) old
+    → ((file old : List ℕ) (r : ℕ) (new : List ℕ) → r ≡ fileFirst Edition.One file (length old) .code → new ≡ bufferAfter (fileFirst Edition.One file (length old)) old
     → Q file old r new) → EachFileFirst Q
 unfolding EachFileFirst
 file-first-each f κs a r s l = f (now (a .0)) (now (a .1 .0)) r (now (s .1 .0)) (l .0) (l .1)
 
 pub file-next-each : {Q : List ℕ → List ℕ → ℕ → List ℕ → Type 0}
-    → ((file old : List ℕ) (r : ℕ) (new : List ℕ) → r ≡ fileNext file (length old) (record { slots = take 64 old }) .code
-    → new ≡ bufferAfter (fileNext file (length old) (record { slots = take 64 old })) old → Q file old r new) → EachFileNext Q
+    → ((file old : List ℕ) (r : ℕ) (new : List ℕ) → r ≡ fileNext Edition.One file (length old) (record { slots = take 64 old }) .code
+    → new ≡ bufferAfter (fileNext Edition.One file (length old) (record { slots = take 64 old })) old → Q file old r new) → EachFileNext Q
 unfolding EachFileNext
 file-next-each f κs a r s l = f (now (a .0)) (now (a .1 .0)) r (now (s .1 .0)) (l .0) (l .1)
 
 pub file-fewest-each : {Q : List ℕ → List ℕ → ℕ → ℕ → List ℕ → Type 0}
-    → ((file old : List ℕ) (cap r : ℕ) (new : List ℕ) → r ≡ fileFewest file (length old) cap .code → new ≡ bufferAfter (fileFewest file (length old) cap) old
+    → ((file old : List ℕ) (cap r : ℕ) (new : List ℕ) → r ≡ fileFewest Edition.One file (length old) cap .code → new ≡ bufferAfter (fileFewest Edition.One file (length old) cap) old
     → Q file old cap r new) → EachFileFewest Q
 unfolding EachFileFewest
 file-fewest-each f κs a r s l = f (now (a .0)) (now (a .1 .0)) (a .1 .1 .0) r (now (s .1 .0)) (l .0) (l .1)

@@ -12,7 +12,8 @@ use Rattle.model.specs.declared.WriteAnswer.{WriteAnswer}
 use Rattle.model.specs.Refusal.{orElse, unless, written, roomCode}
 use Rattle.model.specs.Rota.{tableCode}
 use Rattle.model.specs.Count.{count}
-use Rattle.model.specs.File.{blocksFor, fileCode, itemsIn, opensIn, calloutsIn}
+use Rattle.model.specs.declared.Edition.{Edition}
+use Rattle.model.specs.File.{blocksFor, fileCode, itemsIn, slotsIn, opensIn, calloutsIn}
 use Rattle.model.specs.PlanAnswers.{firstAnswer, nextAnswer, fewestAnswer}
 use Rattle.model.specs.Lister.{listerAnswer, listerAfter}
 use Rattle.model.specs.UsableAnswers.{usableCode, usableAfter}
@@ -88,23 +89,23 @@ module _ (n : ℕ) (opens callouts : List ℕ) where
       test-first (test7 vehicles) 6 _ refl (either _ _ _ _ (equals vehicles 0) (less 10000 vehicles)) _ _ (λ v. price-tests n n opens callouts ok vehicles _)))
 
 module _ (file : List ℕ) where
-  read-says : (o k : List ℕ) → FirstOf (fileTests file (test15 o (itemsIn file) ∷ test15 k (itemsIn file) ∷ [])) (readAnswer file (length o) (length k) .code)
+  read-says : (o k : List ℕ) → FirstOf (fileTests file (test15 o (itemsIn file) ∷ test15 k (itemsIn file) ∷ [])) (readAnswer Edition.One file (length o) (length k) .code)
   unfolding readCode
   read-says o k =
-      by _ _ _ (read-code file (length o) (length k))
+      by _ _ _ (read-code Edition.One file (length o) (length k))
       (file-first file (test15 o (itemsIn file) ∷ test15 k (itemsIn file) ∷ []) _ (λ ok.
       room-first (test15 k (itemsIn file) ∷ []) _ o (itemsIn file) (λ h. last (test15 k (itemsIn file) ∷ []) _ _ (room-first [] 0 k (itemsIn file) (λ z. none-fits)) refl)))
 
   -- a plan call over the file's rota, whose tests after those of the tables are known
-  module _ (old : List ℕ) (others : List Test) (call : ℕ → List ℕ → List ℕ → PlanAnswer) (found : ℕ)
-      (e : call (itemsIn file) (opensIn file) (calloutsIn file) .code ≡ orElse (tableCode (itemsIn file) (itemsIn file) (opensIn file) (calloutsIn file)) found)
+  module _ (old : List ℕ) (others : List Test) (call : ℕ → ℕ → List ℕ → List ℕ → PlanAnswer) (found : ℕ)
+      (e : call (itemsIn file) (itemsIn file) (opensIn file) (calloutsIn file) .code ≡ orElse (tableCode (itemsIn file) (itemsIn file) (opensIn file) (calloutsIn file)) found)
       (f : tableCode (itemsIn file) (itemsIn file) (opensIn file) (calloutsIn file) ≡ 0 → FirstOf others found) where
-    on-file-says : FirstOf (fileTests file (test15 old 64 ∷ others)) (onFile file (length old) call .code)
-    unfolding planFileCode
+    on-file-says : FirstOf (fileTests file (test15 old 64 ∷ others)) (onFile Edition.One file (length old) call .code)
+    unfolding planFileCode slotsIn
     on-file-says =
-        by _ _ _ (on-file-code file (length old) call ∙ or-assoc (fileCode file) (roomCode (length old) 64) _)
+        by _ _ _ (on-file-code Edition.One file (length old) call ∙ or-assoc (fileCode Edition.One file) (roomCode (length old) 64) _)
         (file-first file (test15 old 64 ∷ others) _ (λ z.
-        let ok = accepted-file file z in
+        let ok = accepted-file Edition.One file z in
         room-first others _ old 64 (λ h. by others _ _ (e ∙ or-later _ _ ok) (f ok))))
 
 -- ---- what a refusal returns
@@ -129,9 +130,9 @@ module _ (n : ℕ) (opens callouts : List ℕ) where
         go zero d = absurd (d refl)
         go (suc c) d = refl
 
-zero-items : (file : List ℕ) (o k : ℕ) → readAnswer file o k .code ≢ 0 → readAnswer file o k .n ≡ 0
+zero-items : (file : List ℕ) (o k : ℕ) → readAnswer Edition.One file o k .code ≢ 0 → readAnswer Edition.One file o k .n ≡ 0
 unfolding readAnswer unless
-zero-items file o k = go (readCode file o k)
+zero-items file o k = go (readCode Edition.One file o k)
   where
     go : (c : ℕ) → unless readRefused c (record { code = 0; n = itemsIn file }) .code ≢ 0 → unless readRefused c (record { code = 0; n = itemsIn file }) .n ≡ 0
     go zero d = absurd (d refl)
@@ -160,13 +161,13 @@ demand1 =
       price-code = price-each _ price-number;
       read-code = read-each (λ file o k r o′ k′ e w x. by _ _ _ (ap (λ x. x .code) e) (read-says file o k));
       write-code = write-each (λ n o k old r new e w. by _ _ _ (ap (λ x. x .code) e ∙ write-code n n o k (length old)) (room-says n o k old (512 * blocksFor n)));
-      file-first-code = file-first-each (λ file old r new e w. by _ _ _ e (on-file-says file old (test9 (opensIn file) ∷ []) (λ n o k. firstAnswer n n o k) _
+      file-first-code = file-first-each (λ file old r new e w. by _ _ _ e (on-file-says file old (test9 (opensIn file) ∷ []) firstAnswer _
           (first-code (itemsIn file) (itemsIn file) (opensIn file) (calloutsIn file)) (first-tests (itemsIn file) (itemsIn file) (opensIn file) (calloutsIn file))));
       file-next-code = file-next-each (λ file old r new e w. by _ _ _ e (on-file-says file old (test8 (opensIn file) (take 64 old) ∷ test10 (opensIn file) (take 64 old) ∷ [])
-          (λ n o k. nextAnswer n n o k (record { slots = take 64 old })) _ (next-code (itemsIn file) (itemsIn file) (opensIn file) (calloutsIn file) (record { slots = take 64 old }))
+          (λ n m o k. nextAnswer n m o k (record { slots = take 64 old })) _ (next-code (itemsIn file) (itemsIn file) (opensIn file) (calloutsIn file) (record { slots = take 64 old }))
           (λ ok. next-tests (itemsIn file) (itemsIn file) (opensIn file) (calloutsIn file) ok (take 64 old))));
       file-fewest-code = file-fewest-each (λ file old cap r new e w. by _ _ _ e (on-file-says file old (test9 (opensIn file) ∷ test11 (opensIn file) (calloutsIn file) cap ∷ [])
-          (λ n o k. fewestAnswer n n o k cap) _ (fewest-code (itemsIn file) (itemsIn file) (opensIn file) (calloutsIn file) cap)
+          (λ n m o k. fewestAnswer n m o k cap) _ (fewest-code (itemsIn file) (itemsIn file) (opensIn file) (calloutsIn file) cap)
           (λ ok. fewest-tests (itemsIn file) (itemsIn file) (opensIn file) (calloutsIn file) ok cap)));
       first-refused = first-each _ (λ n o k. first-says n o k .on-refusal);
       next-refused = next-each _ (λ n o k g. next-says n o k g .on-refusal);
@@ -183,7 +184,7 @@ demand1 =
       grade-keeps = grade-each _ (λ n o k tally. kept _ _ _ tally _ refl refl);
       price-keeps = price-each _ (λ n o k v tally. kept _ _ _ tally _ refl refl);
       read-keeps = read-each (λ file o k r o′ k′ e w x d.
-          let q = ap (λ x. x .code) e ∙ read-code file (length o) (length k) in
+          let q = ap (λ x. x .code) e ∙ read-code Edition.One file (length o) (length k) in
           (kept (r .code) _ _ o o′ q w d, kept (r .code) _ _ k k′ q x d));
       write-keeps = write-each (λ n o k old r new e w. kept (r .code) _ _ old new (ap (λ x. x .code) e ∙ write-code n n o k (length old)) w);
       file-first-keeps = file-first-each (λ file old r new e w. kept r _ _ old new e w);

@@ -14,17 +14,20 @@ use Rattle.model.specs.Plans.{IsPlan}
 use Rattle.model.specs.Fewest.{fewest}
 use Rattle.model.specs.Allowed.{allowedWords}
 use Rattle.model.specs.Count.{count, permanent}
-use Rattle.model.specs.File.{fileCode, itemsIn, opensIn, calloutsIn}
+use Rattle.model.specs.declared.Edition.{Edition}
+use Rattle.model.specs.File.{fileCode, itemsIn, slotsIn, opensIn, calloutsIn}
 use Rattle.model.specs.PlanAnswers.{refused, firstAnswer, nextAnswer, fewestAnswer}
 use Rattle.model.specs.UsableAnswers.{usableCode, usableAfter}
 use Rattle.model.specs.CountAnswers.{countCode, countAnswer, countTally}
 use Rattle.model.specs.PriceAnswers.{gradeTally, priceTally}
-use Rattle.model.specs.FileAnswers.{readAnswer, readOpens, readCallouts, planFileCode, onFile, fileFirst, fileNext, fileFewest, bufferAfter}
+use Rattle.model.specs.FileAnswers.{readAnswer, readOpens, readCallouts, writeAnswer, writeFile, planFileCode, onFile, fileFirst, fileNext, fileFewest, bufferAfter}
 use Rattle.model.proofs.Refusals.{neither-refuses, accepted-answer, all-written}
 use Rattle.model.proofs.Codes.{count-code, on-file-code}
+use Rattle.model.proofs.Accepted.{tables-from}
+use Rattle.model.proofs.Editions.{one-tells, one-slots}
 use Rattle.model.proofs.Files.{accepted-file}
 use Rattle.model.proofs.Permanent.{permanent-is-count}
-use Rattle.model.proofs.RoundTrips.{write-then-read, read-then-write}
+use Rattle.model.proofs.RoundTrips.{items-read, write-passed, write-then-read, read-then-write}
 use Rattle.demands.specs.Demand2.{IsFirst, IsNext, IsFewestPlan, Demand2}
 use Rattle.demands.proofs.Contracts.{first-each, next-each, fewest-each, list-each, usable-each, count-each, grade-each, price-each, read-each}
 use Rattle.demands.proofs.Contracts.{write-each, file-first-each, file-next-each, file-fewest-each}
@@ -64,22 +67,27 @@ module _ (n : ℕ) (opens callouts old : List ℕ) (z : usableCode n n opens cal
     rw (words, further-kept (allowedWords n opens) old n size),
   )
 
--- the buffer of a plan call on a file that succeeded
-module _ (file old : List ℕ) (call : ℕ → List ℕ → List ℕ → PlanAnswer) (r : ℕ) (new : List ℕ) (e : r ≡ onFile file (length old) call .code)
-    (w : new ≡ bufferAfter (onFile file (length old) call) old) (z : r ≡ 0) where
+-- a plan call over a rota of n items and m slots
+abbrev PlanCall : Type 0
+PlanCall = ℕ → ℕ → List ℕ → List ℕ → PlanAnswer
+
+-- the buffer of such a call on a file that succeeded
+module _ (file old : List ℕ) (call : PlanCall) (r : ℕ) (new : List ℕ) (e : r ≡ onFile Edition.One file (length old) call .code)
+    (w : new ≡ bufferAfter (onFile Edition.One file (length old) call) old) (z : r ≡ 0) where
   abbrev answer : PlanAnswer
-  answer = call (itemsIn file) (opensIn file) (calloutsIn file)
+  answer = call (itemsIn file) (itemsIn file) (opensIn file) (calloutsIn file)
 
-  both : (planFileCode file (length old) ≡ 0) × (answer .code ≡ 0)
-  both = neither-refuses _ _ (sym (on-file-code file (length old) call) ∙ sym e ∙ z)
+  both : (planFileCode Edition.One file (length old) ≡ 0) × (answer .code ≡ 0)
+  unfolding slotsIn
+  both = neither-refuses _ _ (sym (on-file-code Edition.One file (length old) call) ∙ sym e ∙ z)
 
-  file-answer : onFile file (length old) call ≡ answer
-  unfolding onFile
-  file-answer = sym (accepted-answer (planFileCode file (length old)) (both .0) refused answer)
+  file-answer : onFile Edition.One file (length old) call ≡ answer
+  unfolding onFile slotsIn
+  file-answer = sym (accepted-answer (planFileCode Edition.One file (length old)) (both .0) refused answer)
 
   file-tables : tableCode (itemsIn file) (itemsIn file) (opensIn file) (calloutsIn file) ≡ 0
-  unfolding planFileCode
-  file-tables = accepted-file file (neither-refuses (fileCode file) _ (both .0) .0)
+  unfolding planFileCode slotsIn
+  file-tables = accepted-file Edition.One file (neither-refuses (fileCode Edition.One file) _ (both .0) .0)
 
   -- the buffer has the answer's plan, a record of 64 bytes, and keeps the rest
   in-buffer : (P : List ℕ → Type 0) → length (answer .plan .slots) ≡ 64 → P (answer .plan .slots) → P (take 64 new) × (drop 64 new ≡ drop 64 old)
@@ -111,24 +119,28 @@ demand2 =
       grade = grade-each _ (λ n o k tally z. let g = grade-says n o k (length tally) .1 z in (g .0, tallied-is n o tally z, g .1, g .2));
       price = price-each _ (λ n o k v tally z. let g = price-says n o k v (length tally) .1 z in (g .0, tallied-is n o tally z, g .1, g .2));
       file-first = file-first-each (λ file old r new e w z.
-          let f = first-says (itemsIn file) (opensIn file) (calloutsIn file) .on-success (both file old (λ n o k. firstAnswer n n o k) r new e w z .1) .0 in
-          in-buffer file old (λ n o k. firstAnswer n n o k) r new e w z (IsFirst (opensIn file)) (f .plan .sized) f);
+          let f = first-says (itemsIn file) (opensIn file) (calloutsIn file) .on-success (both file old firstAnswer r new e w z .1) .0 in
+          in-buffer file old firstAnswer r new e w z (IsFirst (opensIn file)) (f .plan .sized) f);
       file-next = file-next-each (λ file old r new e w z.
-          let call : ℕ → List ℕ → List ℕ → PlanAnswer = λ n o k. nextAnswer n n o k (record { slots = take 64 old }) in
+          let call : PlanCall = λ n m o k. nextAnswer n m o k (record { slots = take 64 old }) in
           let f = next-says (itemsIn file) (opensIn file) (calloutsIn file) (record { slots = take 64 old }) .on-success (both file old call r new e w z .1) .0 in
           in-buffer file old call r new e w z (IsNext (opensIn file) (take 64 old)) (f .plan .sized) f);
       file-fewest = file-fewest-each (λ file old cap r new e w z.
-          let call : ℕ → List ℕ → List ℕ → PlanAnswer = λ n o k. fewestAnswer n n o k cap in
+          let call : PlanCall = λ n m o k. fewestAnswer n m o k cap in
           let f = fewest-says (itemsIn file) (opensIn file) (calloutsIn file) cap .on-success (both file old call r new e w z .1) in
           in-buffer file old call r new e w z (λ p. (number : ℕ) × IsFewestPlan (opensIn file) (calloutsIn file) p number × (number ≤ cap)) (f .0 .plan .sized) (_, f .0, f .1));
       write-read = write-each (λ n opens callouts old w new e b z wide.
           read-each (λ file o k r o′ k′ q to tk same ho hk.
-          let t = write-then-read n opens callouts wide old new w e b z o k o′ k′ r (q ∙ ap (λ f. readAnswer f (length o) (length k)) same) (to
-          ∙ ap (λ f. readOpens f o k) same)
-          (tk ∙ ap (λ f. readCallouts f o k) same) ho hk in
+          let few = tables-from n n opens callouts (write-passed n n opens callouts (length old) w e z .1) .few-items in
+          let t = write-then-read Edition.One n n opens callouts few (one-tells n) wide old new w e b z o k o′ k′ r
+          (q ∙ ap (λ f. readAnswer Edition.One f (length o) (length k)) same) (to ∙ ap (λ f. readOpens Edition.One f o k) same)
+          (tk ∙ ap (λ f. readCallouts Edition.One f o k) same) ho hk in
           (ap (λ x. x .code) (t .0), ap (λ x. x .n) (t .0), t .1, t .2)));
       read-write = read-each (λ file o k r o′ k′ e to tk z bytes.
           write-each (λ n opens callouts old w new q b sn so sk room.
-          let t = read-then-write file o k r e z o′ k′ to tk bytes old new w (rw (sn, so, sk) at q) (rw (sn, so, sk) at b) room in
+          let m : r .n ≡ slotsIn Edition.One file = items-read Edition.One file o k r e z ∙ sym (one-slots file) in
+          let answer = rw (sn, so, sk) at q ∙ ap (λ j. writeAnswer (r .n) j (take (r .n) o′) (take (r .n) k′) (length old)) m in
+          let buffer = rw (sn, so, sk) at b ∙ ap (λ j. writeFile Edition.One (r .n) j (take (r .n) o′) (take (r .n) k′) old) m in
+          let t = read-then-write Edition.One file o k r e z o′ k′ to tk bytes old new w answer buffer room in
           (ap (λ x. x .code) (t .0), ap (λ x. x .bytes) (t .0), t .1)));
     }

@@ -17,7 +17,8 @@ use Rattle.words.proofs.Bits.{bit-zero, bit-suc, bit-lt, bit-high, bit-one-lt, 
 use Rattle.model.specs.Lists.{any}
 use Rattle.model.specs.Refusal.{orElse, roomCode}
 use Rattle.model.specs.Rota.{strayCallout, cellCode, tableCode}
-use Rattle.model.specs.File.{blocksIn, itemsIn, opensIn, calloutsIn, checkWrong, blocksFor, blocksLaid, laidOut, fileCode}
+use Rattle.model.specs.declared.Edition.{Edition}
+use Rattle.model.specs.File.{blocksIn, itemsIn, slotsIn, opensIn, calloutsIn, checkWrong, blocksFor, blocksLaid, laidOut, fileCode}
 use Rattle.model.proofs.Members.{is-true, neither, any-from, any-none, place-of}
 use Rattle.demands.specs.Tests.{Test, FirstOf, test1, test2, test3, test4, test12, test13, test14, test15, tables, fileTests}
 
@@ -124,11 +125,11 @@ is-not-so true = record { yes-so = λ e. absurd (false≢true e); no-so = λ e x
 is-not-so false = record { yes-so = λ e. refl; no-so = λ e. absurd (false≢true (sym e)) }
 
 -- a file that is laid out has at most 64 items
-few-laid : (file : List ℕ) → laidOut (itemsIn file) (blocksIn file) ≡ true → itemsIn file ≤ 64
+few-laid : (file : List ℕ) → laidOut Edition.One (itemsIn file) (itemsIn file) (blocksIn file) ≡ true → itemsIn file ≤ 64
 unfolding laidOut
 few-laid file e =
     let n = itemsIn file in
-    leb-true n 64 (second (leb 1 n) (leb n 64) (eqb (length (blocksIn file)) (blocksFor n)) (blocksLaid n 0 (blocksIn file)) e)
+    leb-true n 64 (second (leb 1 n) (leb n 64) (eqb (length (blocksIn file)) (blocksFor n)) (blocksLaid Edition.One n n 0 (blocksIn file)) e)
   where
     second : (a b c d : Bool) → (a && b && c && d) ≡ true → b ≡ true
     second a true c d e = refl
@@ -157,19 +158,22 @@ tables-first n opens callouts others later f =
     (either _ _ _ _ (negated _ _ (equals (length opens) n)) (negated _ _ (equals (length callouts) n))) (λ b.
     cells-first n opens callouts (ltb-false 64 n (neither (eqb n 0) (ltb 64 n) a .1)) others later (λ z. f (rw (a, b) z))))
 
-pub file-first : (file : List ℕ) (others : List Test) (later : ℕ) → (fileCode file ≡ 0 → FirstOf others later)
-    → FirstOf (fileTests file others) (orElse (fileCode file) later)
-unfolding fileCode
+pub file-first : (file : List ℕ) (others : List Test) (later : ℕ) → (fileCode Edition.One file ≡ 0 → FirstOf others later)
+    → FirstOf (fileTests file others) (orElse (fileCode Edition.One file) later)
+unfolding fileCode slotsIn
 file-first file others later f =
-    let cells = test3 (itemsIn file) (opensIn file) ∷ test4 (opensIn file) (calloutsIn file) ∷ others in
-    let rest = cellCode (itemsIn file) (opensIn file) (calloutsIn file) in
-    let laid = cond (not (laidOut (itemsIn file) (blocksIn file))) 14 rest in
-    first-of (test12 file) (test13 file ∷ test14 file ∷ cells) 11 (not (eqb (length file) 512 || eqb (length file) 1024 || eqb (length file) 1536)) (cond (any checkWrong (blocksIn file)) 13 laid) later refl
+    let n = itemsIn file in
+    let cells = test3 n (opensIn file) ∷ test4 (opensIn file) (calloutsIn file) ∷ others in
+    let rest = cellCode n (opensIn file) (calloutsIn file) in
+    let laid = laidOut Edition.One n n (blocksIn file) in
+    let wrong = any (checkWrong Edition.One) (blocksIn file) in
+    first-of (test12 file) (test13 file ∷ test14 file ∷ cells) 11 (not (eqb (length file) 512 || eqb (length file) 1024 || eqb (length file) 1536))
+    (cond wrong 13 (cond (not laid) 14 rest)) later refl
     (same-as (negated _ _ (either _ _ _ _ (either _ _ _ _ (equals (length file) 512) (equals (length file) 1024)) (equals (length file) 1536)))
     (λ d. (λ x. d (inl (inl x)), λ x. d (inl (inr x)), λ x. d (inr x))) (λ t. ⊎-elim (⊎-elim (t .0) (t .1)) (t .2))) (λ a.
-    first-of (test13 file) (test14 file ∷ cells) 12 (any checkWrong (blocksIn file)) laid later refl (is-so (any checkWrong (blocksIn file))) (λ b.
-    first-of (test14 file) cells 13 (not (laidOut (itemsIn file) (blocksIn file))) rest later refl (is-not-so (laidOut (itemsIn file) (blocksIn file))) (λ c.
-    cells-first (itemsIn file) (opensIn file) (calloutsIn file) (few-laid file (not-false _ c)) others later (λ z. f (rw (a, b, c) z)))))
+    first-of (test13 file) (test14 file ∷ cells) 12 wrong (cond (not laid) 14 rest) later refl (is-so wrong) (λ b.
+    first-of (test14 file) cells 13 (not laid) rest later refl (is-not-so laid) (λ c.
+    cells-first n (opensIn file) (calloutsIn file) (few-laid file (not-false _ c)) others later (λ z. f (rw (a, b, c) z)))))
 
 -- ---- 5, 6, 7 and 15
 

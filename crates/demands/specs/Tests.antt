@@ -9,6 +9,7 @@ use Rattle.words.specs.Word.{bit}
 use Rattle.model.specs.Lists.{any, Before}
 use Rattle.model.specs.Plans.{IsPlan}
 use Rattle.model.specs.Fewest.{calloutsOf}
+use Rattle.model.specs.declared.Edition.{Edition}
 use Rattle.model.specs.File.{blocksIn, itemsIn, opensIn, calloutsIn, checkWrong, laidOut}
 
 pub record Test : Type 1 where
@@ -71,11 +72,11 @@ test12 file = record { number = 12; given-when = (length file ≢ 512) × (lengt
 
 -- a block's check is wrong
 abbrev pub test13 : List ℕ → Test
-test13 file = record { number = 13; given-when = any checkWrong (blocksIn file) ≡ true }
+test13 file = record { number = 13; given-when = any (checkWrong Edition.One) (blocksIn file) ≡ true }
 
--- a byte is not as laid out, n is not 1 to 64, or the blocks are not as many as n needs
+-- a byte is not as edition 1 lays it out, n is not 1 to 64, or the blocks are not as many as n needs
 abbrev pub test14 : List ℕ → Test
-test14 file = record { number = 14; given-when = laidOut (itemsIn file) (blocksIn file) ≡ false }
+test14 file = record { number = 14; given-when = laidOut Edition.One (itemsIn file) (itemsIn file) (blocksIn file) ≡ false }
 
 -- a lent output is shorter than what is to be written
 abbrev pub test15 : List ℕ → ℕ → Test

@@ -2,6 +2,7 @@
 use mathlib.Core.Path.{_≡_, refl, _∙_}
 use mathlib.Core.List.{List}
 use Prim.Native.Nat.{ℕ, _*_}
+use Rattle.model.specs.declared.Edition.{Edition}
 use Rattle.model.specs.declared.Plan.{Plan}
 use Rattle.model.specs.declared.PlanAnswer.{PlanAnswer}
 use Rattle.model.specs.declared.CountAnswer.{CountAnswer}
@@ -13,7 +14,7 @@ use Rattle.model.specs.Refusal.{orElse, unless}
 use Rattle.model.specs.Rota.{tableCode}
 use Rattle.model.specs.Fewest.{fewest}
 use Rattle.model.specs.Count.{count}
-use Rattle.model.specs.File.{blocksFor, itemsIn, opensIn, calloutsIn}
+use Rattle.model.specs.File.{blocksFor, itemsIn, slotsIn, opensIn, calloutsIn}
 use Rattle.model.specs.PlanAnswers.{refused, firstFrom, firstAnswer, nextFrom, nextAnswer, fewestFrom, fewestAnswer}
 use Rattle.model.specs.CountAnswers.{countRefused, countCode, countAnswer}
 use Rattle.model.specs.PriceAnswers.{gradeRefused, gradeBy, gradeAnswer, priceRefused, priceBy, priceCode, priceAnswer}
@@ -55,12 +56,12 @@ module _ (n m : ℕ) (opens callouts : List ℕ) where
   unfolding writeAnswer
   write-code places = unless-code (λ (x : WriteAnswer). x .code) writeRefused (λ c. refl) (writeCode n m opens callouts places) (record { code = 0; bytes = 512 * blocksFor n }) ∙ or-none _
 
-module _ (file : List ℕ) where
-  pub read-code : (o k : ℕ) → readAnswer file o k .code ≡ readCode file o k
+module _ (e : Edition) (file : List ℕ) where
+  pub read-code : (o k : ℕ) → readAnswer e file o k .code ≡ readCode e file o k
   unfolding readAnswer
-  read-code o k = unless-code (λ (x : ReadAnswer). x .code) readRefused (λ c. refl) (readCode file o k) (record { code = 0; n = itemsIn file }) ∙ or-none _
+  read-code o k = unless-code (λ (x : ReadAnswer). x .code) readRefused (λ c. refl) (readCode e file o k) (record { code = 0; n = itemsIn file }) ∙ or-none _
 
-  pub on-file-code : (places : ℕ) (call : ℕ → List ℕ → List ℕ → PlanAnswer)
-      → onFile file places call .code ≡ orElse (planFileCode file places) (call (itemsIn file) (opensIn file) (calloutsIn file) .code)
+  pub on-file-code : (places : ℕ) (call : ℕ → ℕ → List ℕ → List ℕ → PlanAnswer)
+      → onFile e file places call .code ≡ orElse (planFileCode e file places) (call (itemsIn file) (slotsIn e file) (opensIn file) (calloutsIn file) .code)
   unfolding onFile
-  on-file-code places call = plan-code (planFileCode file places) (call (itemsIn file) (opensIn file) (calloutsIn file))
+  on-file-code places call = plan-code (planFileCode e file places) (call (itemsIn file) (slotsIn e file) (opensIn file) (calloutsIn file))

@@ -3,16 +3,18 @@ use mathlib.Core.Path.{_≡_, refl, sym, ap, ap₂, _∙_}
 use mathlib.Core.Bool.{true, false, not, _&&_, and-eq-true-iff}
 use mathlib.Core.List.{List, [], _∷_, _++_, append-assoc}
 use Prim.Native.Nat.{ℕ, zero, suc, _+_, _-_, _*_, _/_, _%_, _^_, _≤_, _<_}
-use native.Mathlib.Nat.{suc-inj, mod-lt}
+use native.Mathlib.Nat.{suc-inj}
 use native.Mathlib.Omega.{arith}
 use borrow.Author.Tests.{eq-eqb, eqb-true, not-false}
 use lib.Dec.{eqb, lit<}
 use lib.Pow.{pow-add}
 use lib.ListN.{length, getD, take, drop, length-append, length-replicate, take-append-drop}
 use lib.Seq.{take-at, drop-at, take-add, drop-drop}
+use Rattle.model.specs.declared.Edition.{Edition}
 use Rattle.model.specs.Lists.{same}
 use Rattle.model.specs.File.{lowBytes, fromBytes, itemsOf, header, itemBytes, unused, checkOf, body, checked, wordsEvery16, checkWrong, blockLaid}
 use Rattle.model.proofs.Members.{same-refl, same-eq}
+use Rattle.model.proofs.Editions.{header-length, check-small}
 use Rattle.model.proofs.Parts.{three-parts, Numbers, numbers-take, numbers-drop}
 
 -- ---- numbers and bytes
@@ -89,64 +91,74 @@ items-again (suc k) m l h s =
     ∙ items-again k (m - 16) (drop 16 l) (omega arith) (numbers-drop 16 s refl)))
     ∙ sym (rw (q, take-add 8, take-add 8 (16 * k) (drop 8 l), drop-drop))
 
--- ---- the block, of k items
+-- ---- block b, with k items
 
-pub body-length : (n b : ℕ) (ws cs : List ℕ) → length cs ≡ length ws → length ws ≤ 31 → length (body n b ws cs) ≡ 510
+front-length : (e : Edition) (n m b k : ℕ) (ws cs : List ℕ) → length cs ≡ length ws → length (header e n m b k ++ itemBytes ws cs) ≡ 14 + 16 * length ws
+front-length e n m b k ws cs q = length-append (header e n m b k) (itemBytes ws cs) ∙ ap₂ _+_ (header-length e n m b k) (items-length ws cs q)
+
+pub body-length : (e : Edition) (n m b : ℕ) (ws cs : List ℕ) → length cs ≡ length ws → length ws ≤ 31 → length (body e n m b ws cs) ≡ 510
 unfolding body
-body-length n b ws cs e h =
-    let front : length (header n b (length ws) ++ itemBytes ws cs) ≡ 14 + 16 * length ws = omega (arith, items-length ws cs e) in
-    length-append (header n b (length ws) ++ itemBytes ws cs) (unused (length ws)) ∙ ap₂ _+_ front (length-replicate (16 * (31 - length ws)) 0) ∙ omega arith
+body-length e n m b ws cs q h =
+    let head = header e n m b (length ws) in
+    ap length (sym (append-assoc head (itemBytes ws cs) (unused (length ws)))) ∙ length-append (head ++ itemBytes ws cs) (unused (length ws))
+    ∙ ap₂ _+_ (front-length e n m b (length ws) ws cs q) (length-replicate (16 * (31 - length ws)) 0) ∙ omega arith
 
-pub record Written (n b k : ℕ) (ws cs block : List ℕ) : Type 0 where
+pub record Written (e : Edition) (n m b k : ℕ) (ws cs block : List ℕ) : Type 0 where
   pub size : length block ≡ 512
-  pub right : checkWrong block ≡ false
-  pub laid : blockLaid n b block ≡ true
+  pub right : checkWrong e block ≡ false
+  pub laid : blockLaid e n m b block ≡ true
   pub words : (wordsEvery16 k (drop 14 block) ≡ ws) × (wordsEvery16 k (drop 22 block) ≡ cs)
 
-module _ (n b k : ℕ) (r : itemsOf n b ≡ k) where
-  pub block-back : (ws cs : List ℕ) → Numbers (2 ^ 64) k ws → Numbers (2 ^ 64) k cs → Written n b k ws cs (checked (body n b ws cs))
+module _ (e : Edition) (n m b k : ℕ) (r : itemsOf n b ≡ k) where
+  pub block-back : (ws cs : List ℕ) → Numbers (2 ^ 64) k ws → Numbers (2 ^ 64) k cs → Written e n m b k ws cs (checked e (body e n m b ws cs))
   unfolding checked body checkWrong blockLaid
   block-back ws cs v w =
-      let head = header n b (length ws) in
+      let head = header e n m b (length ws) in
       let items = itemBytes ws cs in
       let rest = unused (length ws) in
-      let bytes = body n b ws cs in
-      let check = checkOf bytes in
+      let bytes = body e n m b ws cs in
+      let check = checkOf e bytes in
       let two = lowBytes 2 check in
-      let front : length (head ++ items) ≡ 14 + 16 * length ws = omega (arith, items-length ws cs (w .count ∙ sym (v .count))) in
-      let long : length bytes ≡ 510 = body-length n b ws cs (w .count ∙ sym (v .count)) (omega arith) in
+      let both : length cs ≡ length ws = w .count ∙ sym (v .count) in
+      let long : length bytes ≡ 510 = body-length e n m b ws cs both (omega arith) in
       let first = take-at bytes two 510 long in
       let last = drop-at bytes two 510 long in
+      let lh = header-length e n m b (length ws) in
+      let after : drop 14 (bytes ++ two) ≡ items ++ (rest ++ two) =
+      ap (drop 14) (append-assoc head (items ++ rest) two ∙ ap (head ++_) (append-assoc items rest two)) ∙ drop-at head (items ++ (rest ++ two)) 14 lh in
+      let words = words-back k ws cs (rest ++ two) v w in
       record {
         size = length-append bytes two ∙ ap (_+ 2) long;
-        right = ap not (ap₂ (λ x y. eqb (fromBytes x) (checkOf y)) last first ∙ eq-eqb (fromBytes two) check (from-low 2 check (mod-lt _ (lit< tt))));
+        right = ap not (ap₂ (λ x y. eqb (fromBytes x) (checkOf e y)) last first ∙ eq-eqb (fromBytes two) check (from-low 2 check (check-small e bytes)));
         laid = rw (r, ← v .count)
-            (ap₂ _&&_ (same-refl head)
+            (ap₂ _&&_
+            (ap (λ l. same l head) (ap (take 14) (append-assoc head (items ++ rest) two) ∙ take-at head ((items ++ rest) ++ two) 14 lh) ∙ same-refl head)
             (ap (λ l. same (drop (14 + 16 * length ws) l) rest) first
-            ∙ ap (λ l. same l rest) (drop-at (head ++ items) rest (14 + 16 * length ws) front) ∙ same-refl rest));
-        words = rw append-assoc (words-back k ws cs (rest ++ two) v w);
+            ∙ ap (λ l. same (drop (14 + 16 * length ws) l) rest) (sym (append-assoc head items rest))
+            ∙ ap (λ l. same l rest) (drop-at (head ++ items) rest (14 + 16 * length ws) (front-length e n m b (length ws) ws cs both)) ∙ same-refl rest));
+        words = (ap (wordsEvery16 k) after ∙ words .0, ap (wordsEvery16 k) (sym (drop-drop 8 14 (bytes ++ two)) ∙ ap (drop 8) after) ∙ words .1);
       }
 
   module _ (block : List ℕ) (s : Numbers 256 512 block) where
-    body-again : blockLaid n b block ≡ true → body n b (wordsEvery16 k (drop 14 block)) (wordsEvery16 k (drop 22 block)) ≡ take 510 block
+    body-again : blockLaid e n m b block ≡ true → body e n m b (wordsEvery16 k (drop 14 block)) (wordsEvery16 k (drop 22 block)) ≡ take 510 block
     unfolding blockLaid body
     body-again laid =
         let ws = wordsEvery16 k (drop 14 block) in
         let cs = wordsEvery16 k (drop 22 block) in
-        let e = and-eq-true-iff (same (take 14 block) (header n b k)) (same (drop (14 + 16 * k) (take 510 block)) (unused k)) .0 (rw r at laid) in
-        ap (λ j. header n b j ++ (itemBytes ws cs ++ unused j)) (words-length k (drop 14 block))
-        ∙ ap₂ _++_ (sym (same-eq (take 14 block) (header n b k) e.0))
+        let q = and-eq-true-iff (same (take 14 block) (header e n m b k)) (same (drop (14 + 16 * k) (take 510 block)) (unused k)) .0 (rw r at laid) in
+        ap (λ j. header e n m b j ++ (itemBytes ws cs ++ unused j)) (words-length k (drop 14 block))
+        ∙ ap₂ _++_ (sym (same-eq (take 14 block) (header e n m b k) q.0))
         (ap₂ _++_
         (ap (λ t. itemBytes ws (wordsEvery16 k t)) (sym (drop-drop 8 14 block)) ∙ items-again k 498 (drop 14 block) (omega arith) (numbers-drop 14 s refl))
-        (sym (same-eq (drop (14 + 16 * k) (take 510 block)) (unused k) e.1)))
+        (sym (same-eq (drop (14 + 16 * k) (take 510 block)) (unused k) q.1)))
         ∙ three-parts 14 (16 * k) 510 block (omega arith)
 
-    pub block-again : checkWrong block ≡ false → blockLaid n b block ≡ true
-        → checked (body n b (wordsEvery16 k (drop 14 block)) (wordsEvery16 k (drop 22 block))) ≡ block
+    pub block-again : checkWrong e block ≡ false → blockLaid e n m b block ≡ true
+        → checked e (body e n m b (wordsEvery16 k (drop 14 block)) (wordsEvery16 k (drop 22 block))) ≡ block
     unfolding checkWrong checked
     block-again right laid =
         let last = drop 510 block in
-        let check = eqb-true (fromBytes last) (checkOf (take 510 block)) (not-false _ right) in
-        ap checked (body-again laid)
+        let check = eqb-true (fromBytes last) (checkOf e (take 510 block)) (not-false _ right) in
+        ap (checked e) (body-again laid)
         ∙ ap (take 510 block ++_) (ap (lowBytes 2) (sym check) ∙ low-from 2 last (numbers-drop 510 s refl))
         ∙ take-append-drop 510 block

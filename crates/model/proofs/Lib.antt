@@ -18,6 +18,7 @@ pub mod Ways
 pub mod Supports
 pub mod Subsets
 pub mod Parts
+pub mod Editions
 pub mod FileBlocks
 pub mod Files
 pub mod RoundTrips

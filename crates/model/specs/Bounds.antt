@@ -4,6 +4,7 @@ use mathlib.Core.Bool.{true, false}
 use mathlib.Core.List.{[], _∷_}
 use Prim.Native.Nat.{_^_, _-_}
 use lib.ListN.{replicate}
+use Rattle.model.specs.declared.Edition.{Edition}
 use Rattle.model.specs.Rota.{tableCode}
 use Rattle.model.specs.Grade.{gradeOf, rate}
 use Rattle.model.specs.File.{blocksFor, fileCode}
@@ -30,11 +31,11 @@ pub record Codes : Type 0 where
   pub too-many-vehicles : fleetCode 10001 ≡ 7
   pub room : roomCode 3 3 ≡ 0
   pub no-room : roomCode 2 3 ≡ 15
-  pub no-file : fileCode [] ≡ 12
-  pub short-file : fileCode (replicate 511 0) ≡ 12
-  pub long-file : fileCode (replicate 2048 0) ≡ 12
-  pub zero-file : fileCode (replicate 512 0) ≡ 14
-  pub wrong-check : fileCode (1 ∷ replicate 511 0) ≡ 13
+  pub no-file : fileCode Edition.One [] ≡ 12
+  pub short-file : fileCode Edition.One (replicate 511 0) ≡ 12
+  pub long-file : fileCode Edition.One (replicate 2048 0) ≡ 12
+  pub zero-file : fileCode Edition.One (replicate 512 0) ≡ 14
+  pub wrong-check : fileCode Edition.One (1 ∷ replicate 511 0) ≡ 13
 
 pub codes : Codes
 unfolding tableCode countCode fileCode

@@ -3,6 +3,7 @@ use mathlib.Core.Path.{_≡_, refl}
 use mathlib.Core.List.{List, [], _∷_, _++_}
 use Prim.Native.Nat.{ℕ, _+_, _*_}
 use lib.ListN.{length, getD, take, drop, replicate}
+use Rattle.model.specs.declared.Edition.{Edition}
 use Rattle.model.specs.Plans.{plans}
 use Rattle.model.specs.Allowed.{allowedWords}
 use Rattle.model.specs.Count.{permanent, subsetCounts}
@@ -55,15 +56,15 @@ rows = search refl
 
 -- T's file is one block, its check 338: byte 510 is 82 and byte 511 is 1; and back
 pub record File : Type 0 where
-  pub size : length (fileBytes 3 T-opens T-callouts) ≡ 512
-  pub check-low : getD (fileBytes 3 T-opens T-callouts) 510 0 ≡ 82
-  pub check-high : getD (fileBytes 3 T-opens T-callouts) 511 0 ≡ 1
-  pub header : take 14 (fileBytes 3 T-opens T-callouts) ≡ 82 ∷ 79 ∷ 84 ∷ 65 ∷ 1 ∷ 3 ∷ 0 ∷ 3 ∷ replicate 6 0
-  pub item-0 : take 16 (drop 14 (fileBytes 3 T-opens T-callouts)) ≡ (3 ∷ replicate 7 0) ++ (1 ∷ replicate 7 0)
-  pub accepted : fileCode (fileBytes 3 T-opens T-callouts) ≡ 0
-  pub items : itemsIn (fileBytes 3 T-opens T-callouts) ≡ 3
-  pub opens : opensIn (fileBytes 3 T-opens T-callouts) ≡ T-opens
-  pub callouts : calloutsIn (fileBytes 3 T-opens T-callouts) ≡ T-callouts
+  pub size : length (fileBytes Edition.One 3 3 T-opens T-callouts) ≡ 512
+  pub check-low : getD (fileBytes Edition.One 3 3 T-opens T-callouts) 510 0 ≡ 82
+  pub check-high : getD (fileBytes Edition.One 3 3 T-opens T-callouts) 511 0 ≡ 1
+  pub header : take 14 (fileBytes Edition.One 3 3 T-opens T-callouts) ≡ 82 ∷ 79 ∷ 84 ∷ 65 ∷ 1 ∷ 3 ∷ 0 ∷ 3 ∷ replicate 6 0
+  pub item-0 : take 16 (drop 14 (fileBytes Edition.One 3 3 T-opens T-callouts)) ≡ (3 ∷ replicate 7 0) ++ (1 ∷ replicate 7 0)
+  pub accepted : fileCode Edition.One (fileBytes Edition.One 3 3 T-opens T-callouts) ≡ 0
+  pub items : itemsIn (fileBytes Edition.One 3 3 T-opens T-callouts) ≡ 3
+  pub opens : opensIn (fileBytes Edition.One 3 3 T-opens T-callouts) ≡ T-opens
+  pub callouts : calloutsIn (fileBytes Edition.One 3 3 T-opens T-callouts) ≡ T-callouts
 
 pub file : File
 unfolding fileBytes fileCode itemsIn opensIn calloutsIn

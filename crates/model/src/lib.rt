@@ -57,3 +57,8 @@ pub struct WriteAnswer {
     pub code: u32,
     pub bytes: u64,
 }
+
+// The editions of the rota file. Calls that name none mean the first.
+pub enum Edition {
+    One,
+}

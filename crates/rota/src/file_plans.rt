@@ -3,23 +3,25 @@
 ghost use mathlib.Core.Path.{_≡_};
 ghost use Prim.Native.Nat.{_≤_};
 ghost use lib.ListN.{length, take};
+ghost use Rattle.model.specs.declared.Edition.{Edition};
 ghost use Rattle.model.specs.Refusal.{written};
 ghost use Rattle.model.specs.FileAnswers.{planFileCode, fileFirst, fileNext, fileFewest, bufferAfter};
-ghost use Rattle.rota_file.specs.FileRota.{rotaUnless};
+ghost use Rattle.file_reading.specs.FileRota.{rotaUnless};
+use file_reading::FileRota;
+use model::Edition;
 use model::Plan;
-use rota_file::FileRota;
 
 // The rota in a file, for a plan buffer of so many bytes: the file's refusals, then 15.
-fn rota_for(file: &[u8], places: usize) -> FileRota
-    ensures { λ r. ⌜ r ≡ rotaUnless (planFileCode (now (file .entry)) places) (now (file .entry)) ⌝ }
+fn rota_for(edition: Edition, file: &[u8], places: usize) -> FileRota
+    ensures { λ r. ⌜ r ≡ rotaUnless (planFileCode edition (now (file .entry)) places) (now (file .entry)) ⌝ }
 {
-    let found = rota_file::rota_in(file);
+    let found = file_reading::rota_in(edition, file);
     let code = found.code;
     if code != 0 {
         return found;
     }
     if places < 64 {
-        return rota_file::no_rota(15);
+        return file_reading::no_rota(15);
     }
     found
 }
@@ -50,10 +52,10 @@ fn store_plan(code: u32, slots: [u8; 64], buffer: &mut [u8]) -> u32
 // The first plan of the rota in a file, into a plan buffer.
 #[no_mangle]
 pub extern "C" fn rota_file_first_plan(file: &[u8], plan: &mut [u8]) -> u32
-    ensures code { λ r. ⌜ r ≡ fileFirst (now (file .entry)) (length (now (plan .entry))) .code ⌝ }
-    ensures plan { λ _. ⌜ now (plan .exit) ≡ bufferAfter (fileFirst (now (file .entry)) (length (now (plan .entry)))) (now (plan .entry)) ⌝ }
+    ensures code { λ r. ⌜ r ≡ fileFirst Edition.One (now (file .entry)) (length (now (plan .entry))) .code ⌝ }
+    ensures plan { λ _. ⌜ now (plan .exit) ≡ bufferAfter (fileFirst Edition.One (now (file .entry)) (length (now (plan .entry)))) (now (plan .entry)) ⌝ }
 {
-    let found = rota_for(file, plan.len());
+    let found = rota_for(Edition::One, file, plan.len());
     if found.code != 0 {
         return found.code;
     }
@@ -69,10 +71,11 @@ pub extern "C" fn rota_file_first_plan(file: &[u8], plan: &mut [u8]) -> u32
 // The plan after the one in the buffer, into the buffer.
 #[no_mangle]
 pub extern "C" fn rota_file_next_plan(file: &[u8], plan: &mut [u8]) -> u32
-    ensures code { λ r. ⌜ r ≡ fileNext (now (file .entry)) (length (now (plan .entry))) (record { slots = take 64 (now (plan .entry)) }) .code ⌝ }
-    ensures plan { λ _. ⌜ now (plan .exit) ≡ bufferAfter (fileNext (now (file .entry)) (length (now (plan .entry))) (record { slots = take 64 (now (plan .entry)) })) (now (plan .entry)) ⌝ }
+    ensures code { λ r. ⌜ r ≡ fileNext Edition.One (now (file .entry)) (length (now (plan .entry))) (record { slots = take 64 (now (plan .entry)) }) .code ⌝ }
+    ensures plan { λ _. ⌜ now (plan .exit)
+        ≡ bufferAfter (fileNext Edition.One (now (file .entry)) (length (now (plan .entry))) (record { slots = take 64 (now (plan .entry)) })) (now (plan .entry)) ⌝ }
 {
-    let found = rota_for(file, plan.len());
+    let found = rota_for(Edition::One, file, plan.len());
     if found.code != 0 {
         return found.code;
     }
@@ -89,10 +92,10 @@ pub extern "C" fn rota_file_next_plan(file: &[u8], plan: &mut [u8]) -> u32
 // The first plan with the fewest callouts of the rota in a file, if these are at most `cap`, into a plan buffer.
 #[no_mangle]
 pub extern "C" fn rota_file_fewest_callouts(file: &[u8], plan: &mut [u8], cap: u32) -> u32
-    ensures code { λ r. ⌜ r ≡ fileFewest (now (file .entry)) (length (now (plan .entry))) cap .code ⌝ }
-    ensures plan { λ _. ⌜ now (plan .exit) ≡ bufferAfter (fileFewest (now (file .entry)) (length (now (plan .entry))) cap) (now (plan .entry)) ⌝ }
+    ensures code { λ r. ⌜ r ≡ fileFewest Edition.One (now (file .entry)) (length (now (plan .entry))) cap .code ⌝ }
+    ensures plan { λ _. ⌜ now (plan .exit) ≡ bufferAfter (fileFewest Edition.One (now (file .entry)) (length (now (plan .entry))) cap) (now (plan .entry)) ⌝ }
 {
-    let found = rota_for(file, plan.len());
+    let found = rota_for(Edition::One, file, plan.len());
     if found.code != 0 {
         return found.code;
     }

@@ -2,27 +2,32 @@
 use mathlib.Core.Path.{sym, _∙_}
 use borrow.Author.Needs.{needs}
 use lib.Seq.{length-take-le}
+use Rattle.model.specs.declared.Edition.{Edition}
 use Rattle.model.specs.PlanAnswers.{firstAnswer}
 use Rattle.model.specs.FileAnswers.{fileFirst}
 use Rattle.rota.proofs.OnFiles.{Opened, refused-by-file, opened}
 use Rattle.rota.proofs.file_plans.rota_file_first_plan.Statement.{statement}
 use Rattle.rota.proofs.file_plans.rota_file_first_plan.Tie as tie
 
-open-at : (s : tie.Else1) → Opened (s .before .before .before .before .before .args .file .now) (s .before .before .before .before .before .args .plan .now) (s .before .before .rota-for .result)
-open-at s = opened _ (s .before .before .before .before .before .args .plan .now) _ (s .before .before .rota-for .ensures) (s .if1 .left)
+open-at : (s : tie.Else1) → let start = s .before .before .before .before .before .args in
+    Opened Edition.One (start .file .now) (start .plan .now) (s .before .before .rota-for .result)
+open-at s =
+    let start = s .before .before .before .before .before .args in
+    opened Edition.One (start .file .now) (start .plan .now) (s .before .before .rota-for .ensures) (s .if1 .left)
 
 returns : tie.Need-returns
 unfolding fileFirst
 returns c =
     let start = c .before .before .before .before .before .args in
-    refused-by-file (start .file .now) (start .plan .now) _ (c .before .before .rota-for .ensures) (λ n o k. firstAnswer n n o k) (c .if1 .taken)
+    refused-by-file Edition.One (start .file .now) (start .plan .now) (c .before .before .rota-for .ensures) firstAnswer (c .if1 .taken)
 
 returns-2 : tie.Need-returns-2
 unfolding fileFirst
 returns-2 c =
-    let at-search = c .before .before .before .before .before .before in
+    let at-stored = c .before .before in
+    let at-search = at-stored .before .before .before .before in
     let o = open-at (at-search .before .before .before) in
-    o .stores (λ n o k. firstAnswer n n o k) _ (at-search .first-plan .ensures ∙ o .first) _ (c .before .before .store-plan .ensures .0) _ (c .before .before .store-plan .ensures .1)
+    o .stores firstAnswer (at-search .first-plan .ensures ∙ o .first) (at-stored .store-plan .ensures .0) (at-stored .store-plan .ensures .1)
 
 pub rota-file-first-plan-spec : {M : Type 1} → statement M
 rota-file-first-plan-spec =

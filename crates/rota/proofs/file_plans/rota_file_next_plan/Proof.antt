@@ -3,33 +3,43 @@ use mathlib.Core.Path.{sym, ap, _∙_}
 use borrow.Author.Needs.{needs}
 use lib.ListN.{take}
 use lib.Seq.{length-take-le}
+use Rattle.model.specs.declared.Edition.{Edition}
 use Rattle.model.specs.declared.Plan.{Plan}
 use Rattle.model.specs.PlanAnswers.{nextFrom, nextAnswer}
 use Rattle.model.specs.FileAnswers.{fileNext}
-use Rattle.rota.proofs.OnFiles.{Opened, refused-by-file, opened}
+use Rattle.rota.proofs.OnFiles.{PlanCall, Opened, refused-by-file, opened}
 use Rattle.rota.proofs.file_plans.rota_file_next_plan.Statement.{statement}
 use Rattle.rota.proofs.file_plans.rota_file_next_plan.Tie as tie
 
-open-at : (s : tie.Else1) → Opened (s .before .before .before .before .before .args .file .now) (s .before .before .before .before .before .args .plan .now) (s .before .before .rota-for .result)
-open-at s = opened _ (s .before .before .before .before .before .args .plan .now) _ (s .before .before .rota-for .ensures) (s .if1 .left)
+-- the call for the plan after the one in the buffer
+abbrev after : Plan → PlanCall
+after g n m opens callouts = nextAnswer n m opens callouts g
+
+open-at : (s : tie.Else1) → let start = s .before .before .before .before .before .args in
+    Opened Edition.One (start .file .now) (start .plan .now) (s .before .before .rota-for .result)
+open-at s =
+    let start = s .before .before .before .before .before .args in
+    opened Edition.One (start .file .now) (start .plan .now) (s .before .before .rota-for .ensures) (s .if1 .left)
 
 returns : tie.Need-returns
 unfolding fileNext
 returns c =
     let start = c .before .before .before .before .before .args in
-    refused-by-file (start .file .now) (start .plan .now) _ (c .before .before .rota-for .ensures) (λ n o k. nextAnswer n n o k (record { slots = take 64 (start .plan .now) })) (c .if1 .taken)
+    refused-by-file Edition.One (start .file .now) (start .plan .now) (c .before .before .rota-for .ensures) (after (record { slots = take 64 (start .plan .now) }))
+    (c .if1 .taken)
 
 returns-2 : tie.Need-returns-2
 unfolding fileNext
 returns-2 c =
-    let at-search = c .before .before .before .before .before .before in
+    let at-stored = c .before .before in
+    let at-search = at-stored .before .before .before .before in
     let at-plan = at-search .before .before in
     let at-file = at-plan .before .before .before in
     let given : Plan = record { slots = take 64 (at-file .before .before .before .before .before .args .plan .now) } in
     let found = at-file .before .before .rota-for .result in
     let o = open-at at-file in
-    o .stores (λ n o k. nextAnswer n n o k given) _ (at-search .next-plan .ensures ∙ ap (nextFrom 64 (take (found .n) (found .opens))) (at-plan .plan-in .ensures) ∙ o .next given) _ (c .before .before .store-plan .ensures .0) _
-    (c .before .before .store-plan .ensures .1)
+    o .stores (after given) (at-search .next-plan .ensures ∙ ap (nextFrom 64 (take (found .n) (found .opens))) (at-plan .plan-in .ensures) ∙ o .next given)
+    (at-stored .store-plan .ensures .0) (at-stored .store-plan .ensures .1)
 
 pub rota-file-next-plan-spec : {M : Type 1} → statement M
 rota-file-next-plan-spec =

@@ -1,0 +1,4 @@
+mod Comparing
+mod Layouts
+mod OneBlock
+mod ReaderSteps

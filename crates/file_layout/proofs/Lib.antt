@@ -1,0 +1,2 @@
+mod ByEdition
+mod Turns

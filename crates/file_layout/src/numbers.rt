@@ -1,0 +1,32 @@
+// Numbers and their bytes, low byte first.
+ghost use mathlib.Core.Path.{_≡_};
+ghost use Prim.Native.Nat.{_≤_};
+ghost use lib.ListN.{length};
+ghost use Rattle.model.specs.File.{fromBytes, lowBytes};
+
+// The number of up to 8 bytes.
+pub fn from_bytes(bytes: &[u8]) -> u64
+    requires { ⌜ length (now bytes) ≤ 8 ⌝ }
+    ensures { λ r. ⌜ r ≡ fromBytes (now (bytes .entry)) ⌝ }
+{
+    let mut x: u64 = 0;
+    let mut i = bytes.len();
+    while 0 < i {
+        i -= 1;
+        x = 256 * x + words::wide(bytes[i]) as u64;
+    }
+    x
+}
+
+// Writes the low bytes of a number over all of a part.
+pub fn put_low(x: u64, out: &mut [u8])
+    ensures { λ _. ⌜ now (out .exit) ≡ lowBytes (length (now (out .entry))) x ⌝ }
+{
+    let mut rest = x;
+    let mut i = 0;
+    while i < out.len() {
+        out[i] = (rest % 256) as u8;
+        rest = rest / 256;
+        i += 1;
+    }
+}

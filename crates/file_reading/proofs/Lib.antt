@@ -1,0 +1,5 @@
+mod Checking
+mod FileRefusals
+mod Values
+mod Inside
+pub mod Rotas

@@ -1,0 +1,17 @@
+-- `write_body` meets its contract. Assumes nothing.
+use borrow.Author.Needs.{needs}
+use Rattle.file_writing.proofs.WrittenBytes.{body-written}
+use Rattle.file_writing.proofs.write_body.Statement.{statement}
+use Rattle.file_writing.proofs.write_body.Tie as tie
+
+returns : tie.Need-returns
+returns c =
+    let start = c .before .before .before .before .before .before .before .before .before .before .before .before .before .before .before in
+    body-written _ _ _ _ (start .args .opens .now) (start .args .callouts .now) (start .args .out .now) _ _ _ (start .pre .0) (start .pre .1) (start .pre .2)
+    (c .before .before .before .before .before .before .before .before .before .before .write-header .ensures) (c .before .before .before .before .before .before .write-items .ensures) (c .before .before .clear .ensures)
+
+pub write-body-spec : {M : Type 1} → statement M
+write-body-spec =
+    tie.close (tie.spec (λ c. search needs) (λ c. search needs) (λ c. search needs) (λ c. search needs) (λ c. search needs) (λ c. search needs)
+    (λ c κs. search needs) (λ c. search needs) (λ c. search needs) (λ c. search needs) (λ c κs. search needs) (λ c. search needs) (λ c. search needs)
+    (λ c. search needs) (λ c κs. search needs) (λ c. search needs) returns)

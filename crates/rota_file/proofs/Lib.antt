@@ -1,8 +1,0 @@
-mod Turns
-mod Layouts
-mod Checks
-mod FileRefusals
-mod Values
-mod WrittenBytes
-mod Inside
-pub mod Rotas
