@@ -14,8 +14,11 @@ class Function:
     exported: bool
     first_line: int
     last_line: int
-    contract: str
-    body: str
+    text: str
+
+    @property
+    def contract(self):
+        return self.text.partition("\n{\n")[0]
 
     @property
     def place(self):
@@ -23,7 +26,7 @@ class Function:
         return self.file[len("src/"):-len(".rt")] + "/" + self.name
 
     def calls(self, other):
-        return re.search(rf"\b{other.name}\(", self.body) is not None
+        return self != other and re.search(rf"\b{other.name}\(", self.text) is not None
 
 
 @dataclass(frozen=True)
@@ -37,14 +40,14 @@ class Edit:
     places: tuple
 
 
-FUNCTION = re.compile(r'^(#\[no_mangle\]\n)?((?:pub )?(?:extern "C" )?fn (\w+)\(.*?)\n\{\n(.*?)^\}$', re.M | re.S)
+FUNCTION = re.compile(r'^(#\[no_mangle\]\n)?((?:pub )?(?:extern "C" )?fn (\w+)\(.*?^\})$', re.M | re.S)
 
 
 def functions_in(file, text):
     def line(place):
         return text.count("\n", 0, place) + 1
 
-    return [Function(file, m[3], bool(m[1]), line(m.start()), line(m.end()), m[2], m[4]) for m in FUNCTION.finditer(text)]
+    return [Function(file, m[3], bool(m[1]), line(m.start()), line(m.end()), m[2]) for m in FUNCTION.finditer(text)]
 
 
 def changed(texts, changes):
@@ -59,27 +62,29 @@ def changed(texts, changes):
 
 # ---- wrong answers
 
-def wrong_answer(path, texts, functions):
-    """An edit from its file: a 'file:' line holds for the pairs of 'old:' and 'new:' after it. It changes one function; beside it only what
-    stands outside of functions, as imports."""
+def wrong_answer(label, text, texts, functions):
+    """An edit from its file's text: a 'file:' line holds for the pairs of 'old:' and 'new:' after it. It changes one function, and beside it
+    only what stands outside of functions, as imports do."""
     file, old, changes = "", "", []
-    for line in path.read_text().splitlines():
-        key, _, value = line.partition(": ")
+    for key, value in re.findall(r"^(file|old|new): ?(.*)$", text, re.M):
         if key == "file":
             file = value
         elif key == "old":
             old = value
-        elif key == "new":
+        else:
             changes.append((file, old, value))
-    changed(texts, changes)
+    try:
+        changed(texts, changes)
+    except BadEdit as why:
+        raise BadEdit(f"wrong answer {label}: BAD EDIT: {why}") from None
     inside = set()
     for file, old, _ in changes:
         line = texts[file].count("\n", 0, texts[file].index(old)) + 1
         inside |= {f for f in functions if f.file == file and f.first_line <= line <= f.last_line}
     if len(inside) != 1:
-        raise BadEdit(f"it changes {len(inside)} functions, and not one")
+        raise BadEdit(f"wrong answer {label}: BAD EDIT: it changes {len(inside)} functions, and not one")
     function = inside.pop()
-    return Edit(path.stem, f"wrong answer {path.stem}", function, tuple(changes), (function.place,))
+    return Edit(label, f"wrong answer {label}", function, tuple(changes), (function.place,))
 
 
 # ---- weaker contracts
@@ -100,7 +105,7 @@ def weaker_clauses(clause, number, code):
     """Each factor of a clause, made to hold on success alone and on refusal alone: a label, what it is called, and the clause."""
     read = re.fullmatch(r"    ensures (\w*) ?\{ λ \w+\. ⌜ (.*) ⌝ \}", re.sub(r"\n *", " ", clause))
     if not read:
-        raise BadEdit(f"a clause that is not read: {clause.strip()}")
+        raise BadEdit(f"a clause that can't be read: {clause.strip()}")
     name, parts = read[1] or str(number), factors(read[2])
     for k, part in enumerate(parts):
         label, words = (f"{name}-{k + 1}", f"{name} part {k + 1}") if len(parts) > 1 else (name, name)
