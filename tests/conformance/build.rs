@@ -6,9 +6,6 @@ use std::path::PathBuf;
 fn main() {
     println!("cargo:rerun-if-changed=build.rs");
     println!("cargo:rerun-if-env-changed=ROTA_LIBRARY");
-    if env::var_os("CARGO_FEATURE_MOCK").is_some() {
-        return;
-    }
     let here = PathBuf::from(env::var_os("CARGO_MANIFEST_DIR").expect("cargo sets CARGO_MANIFEST_DIR"));
     let library = match env::var_os("ROTA_LIBRARY") {
         Some(directory) => here.join(directory),

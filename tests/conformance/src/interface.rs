@@ -66,7 +66,6 @@ pub struct WriteAnswer {
 /// Declares the calls twice: as C functions to link, and as a table of pointers that a stand-in can fill too.
 macro_rules! calls {
     ($($field:ident $symbol:ident ($($parameter:ident: $kind:ty),*) -> $answer:ty;)*) => {
-        #[cfg(not(feature = "mock"))]
         mod linked {
             use super::*;
             extern "C" {
@@ -81,7 +80,6 @@ macro_rules! calls {
         }
 
         /// The linked library's calls.
-        #[cfg(not(feature = "mock"))]
         pub fn library() -> Calls {
             Calls { $($field: linked::$symbol,)* }
         }

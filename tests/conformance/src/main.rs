@@ -1,12 +1,14 @@
 //! Compares every public call of the rota library with answers found independently of it.
 //!
 //! `conformance [SCALE] [SEED]` makes SCALE rounds of cases; `--counts` shows how many for each call; `--trace` writes every
-//! input to standard error before the call. `conformance --self-test` shows that wrong answers are found.
+//! input to standard error before the call. `conformance --self-test` shows that wrong answers are found. Rounds, and the wrong
+//! answers of the self-test, are spread over the machine's processors; a trace is of one round after the other.
 
 mod checks;
 mod inputs;
 mod interface;
 mod lent;
+mod parallel;
 mod random;
 mod reference;
 mod rota;
@@ -15,15 +17,12 @@ mod session;
 mod subjects;
 mod wrappers;
 
+use interface::library;
+use parallel::{processors, spread};
 use random::Random;
 use reference::answers::CALLS;
 use session::Session;
 use std::process::ExitCode;
-
-#[cfg(not(feature = "mock"))]
-use interface::library;
-#[cfg(feature = "mock")]
-use self_test::mock_calls::calls as library;
 
 const USAGE: &str = "conformance [SCALE] [SEED] [--counts] [--trace], or conformance --self-test";
 
@@ -58,15 +57,23 @@ fn round_seed(seed: u64, round: u64) -> u64 {
 
 fn compare(scale: u64, seed: u64, counts: bool, trace: bool) -> ExitCode {
     println!("conformance: scale {scale}, seed {seed}");
-    let mut session = Session::new(library(), trace);
-    for round in 0..scale {
+    let workers = if trace { 1 } else { processors() };
+    let rounds = spread(scale, workers, |round| {
+        let mut session = Session::new(library(), trace);
         let seed = round_seed(seed, round);
-        if let Err(difference) = subjects::run(&mut session, seed) {
+        match subjects::run(&mut session, seed) {
+            Ok(()) => Ok(session),
+            Err(difference) => Err((round, seed, difference)),
+        }
+    });
+    let session = match rounds {
+        Ok(sessions) => sessions.into_iter().reduce(Session::with).expect("a round"),
+        Err((round, seed, difference)) => {
             println!("conformance: a difference in round {round}; again with: conformance 1 {seed}");
             println!("{}", difference.0);
             return ExitCode::FAILURE;
         }
-    }
+    };
     if counts {
         for call in CALLS {
             println!("{:26} {:9} cases {:9} calls", call.name(), session.cases_of(call), session.made_of(call));

@@ -25,6 +25,15 @@ impl Session {
         Session { calls, random: Random::new(0), cases: [0; CALLS.len()], made: [0; CALLS.len()], trace }
     }
 
+    /// Both runs as one.
+    pub fn with(mut self, other: Session) -> Self {
+        for call in CALLS {
+            self.cases[call as usize] += other.cases_of(call);
+            self.made[call as usize] += other.made_of(call);
+        }
+        self
+    }
+
     /// Counts a case of a call. The calls of one lister run make one case.
     pub fn case(&mut self, call: Call) {
         self.cases[call as usize] += 1;

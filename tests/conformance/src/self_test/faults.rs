@@ -3,7 +3,7 @@
 use super::mock::Reply;
 use super::{systematic, wrong, wrong_files};
 use crate::reference::answers::{Call, Input};
-use std::rc::Rc;
+use std::sync::Arc;
 
 /// Where a buffer is written that should be kept there.
 #[derive(Clone, Copy, PartialEq, Eq, Debug)]
@@ -50,7 +50,7 @@ impl Buffer {
     }
 }
 
-pub type Change = Rc<dyn Fn(&Input, &mut Reply)>;
+pub type Change = Arc<dyn Fn(&Input, &mut Reply) + Send + Sync>;
 
 #[derive(Clone)]
 pub struct Fault {
@@ -66,15 +66,15 @@ pub struct Fault {
 
 impl Fault {
     pub fn none() -> Self {
-        Fault { name: String::new(), subject: None, change: Rc::new(|_, _| {}), exchanged: None, touched: None }
+        Fault { name: String::new(), subject: None, change: Arc::new(|_, _| {}), exchanged: None, touched: None }
     }
 
-    pub fn new(name: impl Into<String>, change: impl Fn(&Input, &mut Reply) + 'static) -> Self {
-        Fault { name: name.into(), change: Rc::new(change), ..Fault::none() }
+    pub fn new(name: impl Into<String>, change: impl Fn(&Input, &mut Reply) + Send + Sync + 'static) -> Self {
+        Fault { name: name.into(), change: Arc::new(change), ..Fault::none() }
     }
 
     /// A fault of one call.
-    pub fn of(call: Call, name: &str, change: impl Fn(&Input, &mut Reply) + 'static) -> Self {
+    pub fn of(call: Call, name: &str, change: impl Fn(&Input, &mut Reply) + Send + Sync + 'static) -> Self {
         Fault::new(format!("{}: {name}", call.name()), move |input, reply| {
             if input.call == call {
                 change(input, reply);

@@ -74,7 +74,7 @@ impl Reply {
     }
 }
 
-/// Sets the fault that all further replies have.
+/// Sets the fault that all further replies to this thread have.
 pub fn set_fault(fault: &Fault) {
     FAULT.set(fault.clone());
 }

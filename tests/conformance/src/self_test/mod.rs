@@ -8,8 +8,10 @@ mod systematic;
 mod wrong;
 mod wrong_files;
 
+use crate::parallel::{processors, spread};
 use crate::session::Session;
 use crate::subjects;
+use faults::Fault;
 use std::process::ExitCode;
 
 const SEED: u64 = 1;
@@ -17,20 +19,29 @@ const SEED: u64 = 1;
 pub fn run() -> ExitCode {
     let compared = methods::run();
     println!("self-test: {compared} comparisons between methods agree");
-    let mut found = 0;
-    for fault in faults::all() {
-        mock::set_fault(&fault);
-        let mut session = Session::new(mock_calls::calls(), false);
-        let outcome = match fault.subject {
-            Some(subject) => subjects::run_one(&mut session, SEED, subject),
-            None => subjects::run(&mut session, SEED),
-        };
-        if outcome.is_ok() {
-            println!("self-test: not found: {}", fault.name);
-            return ExitCode::FAILURE;
+    let faults = faults::all();
+    match spread(faults.len() as u64, processors(), |turn| find(&faults[turn as usize])) {
+        Ok(found) => {
+            println!("self-test: {} kinds of wrong answers found", found.len());
+            ExitCode::SUCCESS
         }
-        found += 1;
+        Err(name) => {
+            println!("self-test: not found: {name}");
+            ExitCode::FAILURE
+        }
     }
-    println!("self-test: {found} kinds of wrong answers found");
-    ExitCode::SUCCESS
+}
+
+/// A fault must be found; else its name is given.
+fn find(fault: &Fault) -> Result<(), &str> {
+    mock::set_fault(fault);
+    let mut session = Session::new(mock_calls::calls(), false);
+    let outcome = match fault.subject {
+        Some(subject) => subjects::run_one(&mut session, SEED, subject),
+        None => subjects::run(&mut session, SEED),
+    };
+    match outcome {
+        Ok(()) => Err(&fault.name),
+        Err(_) => Ok(()),
+    }
 }

@@ -16,7 +16,7 @@ pub fn faults() -> Vec<Fault> {
 }
 
 /// A fault of a call's successes.
-fn success(call: Call, name: &str, change: impl Fn(&Input, &mut Reply) + 'static) -> Fault {
+fn success(call: Call, name: &str, change: impl Fn(&Input, &mut Reply) + Send + Sync + 'static) -> Fault {
     Fault::of(call, name, move |input, reply| {
         if reply.code == 0 {
             change(input, reply);
