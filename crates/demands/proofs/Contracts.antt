@@ -102,5 +102,21 @@ pub file-fewest-each : {Q : List ℕ → List ℕ → ℕ → ℕ → List ℕ �
 unfolding EachFileFewest
 file-fewest-each f κs a r s l = f (now (a .0)) (now (a .1 .0)) (a .1 .1 .0) r (now (s .1 .0)) (l .0) (l .1)
 
+-- by fields: each uses one contract
 pub ask-nothing : AskNothing
-ask-nothing = search tt
+ask-nothing =
+    record {
+      first-plan = λ κs a. tt;
+      next-plan = λ κs a. tt;
+      fewest-callouts = λ κs a. tt;
+      usable-slots = λ κs a. tt;
+      count-plans = λ κs a. tt;
+      grade = λ κs a. tt;
+      monthly-price = λ κs a. tt;
+      read-file = λ κs a. tt;
+      write-file = λ κs a. tt;
+      file-first-plan = λ κs a. tt;
+      file-next-plan = λ κs a. tt;
+      file-fewest-callouts = λ κs a. tt;
+      list-plan = λ κs a. refl;
+    }

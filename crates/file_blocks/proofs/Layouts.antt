@@ -48,7 +48,8 @@ module _ (e : Edition) (block : List ℕ) (long : length block ≡ 512) where
 
       pub laid-rest : same (take 14 block) (header e n m b k) ≡ true → same tail (replicate (length tail) 0) ≡ blockLaid e n m b block
       laid-rest q =
-          let size : length tail ≡ 16 * (31 - k) = omega (arith, length-take (510 - (14 + 16 * k)) (drop (14 + 16 * k) block), length-drop (14 + 16 * k) block) in
+          let at = 14 + 16 * k in
+          let size : length tail ≡ 16 * (31 - k) = omega (arith, length-take (510 - at) (drop at block), length-drop at block) in
           sym (laid-parts ∙ ap₂ (λ t j. t && same tail (replicate j 0)) q (sym size))
 
 -- the mark, then the other fields

@@ -11,18 +11,14 @@ use Rattle.model.specs.File.{fileCode, itemsIn, slotsIn, opensIn, calloutsIn}
 use Rattle.model.proofs.Accepted.{Tables, tables-from}
 use Rattle.model.proofs.Files.{accepted-file}
 use Rattle.file_reading.specs.declared.FileRota.{FileRota}
-use Rattle.file_reading.specs.FileRota.{padded64, noRota, rotaUnless}
-
--- the answer of an accepted file
-abbrev whole : List ℕ → FileRota
-whole file = record { code = 0; n = itemsIn file; opens = padded64 (itemsIn file) (opensIn file); callouts = padded64 (itemsIn file) (calloutsIn file) }
+use Rattle.file_reading.specs.FileRota.{noRota, wholeRota, rotaUnless}
 
 module _ (file : List ℕ) (code : ℕ) {r : FileRota} (is : r ≡ rotaUnless code file) where
   pub code-is : r .code ≡ code
   unfolding rotaUnless unless
   code-is = ap (λ x. x .code) is ∙ go code
     where
-      go : (c : ℕ) → unless noRota c (whole file) .code ≡ c
+      go : (c : ℕ) → unless noRota c (wholeRota file) .code ≡ c
       go zero = refl
       go (suc c) = refl
 
@@ -30,9 +26,9 @@ module _ (file : List ℕ) (code : ℕ) {r : FileRota} (is : r ≡ rotaUnless co
     tables : Tables (itemsIn file) (slotsIn e file) (opensIn file) (calloutsIn file)
     tables = tables-from (itemsIn file) (slotsIn e file) (opensIn file) (calloutsIn file) (accepted-file e file passed)
 
-    found : r ≡ whole file
+    found : r ≡ wholeRota file
     unfolding rotaUnless unless
-    found = is ∙ ap (λ c. unless noRota c (whole file)) (sym code-is ∙ z)
+    found = is ∙ ap (λ c. unless noRota c (wholeRota file)) (sym code-is ∙ z)
 
     pub items-are : r .n ≡ itemsIn file
     items-are = ap (λ x. x .n) found

@@ -13,8 +13,11 @@ padded64 n words = words ++ drop n (replicate 64 0)
 abbrev pub noRota : ℕ → FileRota
 noRota c = record { code = c; n = 0; opens = replicate 64 0; callouts = replicate 64 0 }
 
+-- the rota of an accepted file
+abbrev pub wholeRota : List ℕ → FileRota
+wholeRota file = record { code = 0; n = itemsIn file; opens = padded64 (itemsIn file) (opensIn file); callouts = padded64 (itemsIn file) (calloutsIn file) }
+
 -- refused by a code, or the file's rota
 unfoldable pub rotaUnless : ℕ → List ℕ → FileRota
 unfolding unless itemsIn opensIn calloutsIn
-rotaUnless code file =
-    unless noRota code (record { code = 0; n = itemsIn file; opens = padded64 (itemsIn file) (opensIn file); callouts = padded64 (itemsIn file) (calloutsIn file) })
+rotaUnless code file = unless noRota code (wholeRota file)

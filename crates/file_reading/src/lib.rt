@@ -56,7 +56,8 @@ fn check_blocks(edition: Edition, file: &[u8]) -> Checked
 fn layout_code(edition: Edition, file: &[u8]) -> u32
     ensures code { λ r. ⌜ orElse r (cellCode (slotsIn edition (now (file .entry))) (opensIn (now (file .entry))) (calloutsIn (now (file .entry))))
         ≡ fileCode edition (now (file .entry)) ⌝ }
-    ensures laid { λ r. ⌜ (r ≡ 0 → laidOut edition (itemsIn (now (file .entry))) (slotsIn edition (now (file .entry))) (blocksIn (now (file .entry))) ≡ true) ⌝ }
+    ensures laid { λ r. ⌜ (r ≡ 0
+        → laidOut edition (itemsIn (now (file .entry))) (slotsIn edition (now (file .entry))) (blocksIn (now (file .entry))) ≡ true) ⌝ }
 {
     let k = file.len() / 512;
     if 512 * k != file.len() {

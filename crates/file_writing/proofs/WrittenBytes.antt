@@ -42,8 +42,8 @@ put-two a n old x y h e =
 
 -- ---- an item, a header
 
-pub item-written : (w c : ℕ) (out x y : List ℕ) → length out ≡ 16 → x ≡ lowBytes (length (take 8 out)) w → y ≡ lowBytes (length (take 8 (drop 8 (x ++ drop 8 out)))) c
-    → put 8 8 (x ++ drop 8 out) y ≡ lowBytes 8 w ++ lowBytes 8 c
+pub item-written : (w c : ℕ) (out x y : List ℕ) → length out ≡ 16 → x ≡ lowBytes (length (take 8 out)) w
+    → y ≡ lowBytes (length (take 8 (drop 8 (x ++ drop 8 out)))) c → put 8 8 (x ++ drop 8 out) y ≡ lowBytes 8 w ++ lowBytes 8 c
 item-written w c out x y h p q =
     let s : length (take 8 out) ≡ 8 = length-take-le 8 out (omega arith) in
     let a : x ≡ lowBytes 8 w = p ∙ ap (λ k. lowBytes k w) s in
@@ -66,8 +66,8 @@ header-written e n m b k rest out x y h f p q =
 -- ---- items
 
 pub items-more : (opens callouts out y : List ℕ) (i : ℕ) → length callouts ≡ length opens → length out ≡ 16 * length opens → i < length opens
-    → itemBytes opens callouts ≡ take (16 * i) out ++ itemBytes (drop i opens) (drop i callouts) → y ≡ lowBytes 8 (getD opens i 0) ++ lowBytes 8 (getD callouts i 0)
-    → let next = put (16 * i) (16 * i + 16 - 16 * i) out y in
+    → itemBytes opens callouts ≡ take (16 * i) out ++ itemBytes (drop i opens) (drop i callouts)
+    → y ≡ lowBytes 8 (getD opens i 0) ++ lowBytes 8 (getD callouts i 0) → let next = put (16 * i) (16 * i + 16 - 16 * i) out y in
     (length next ≡ length out) × (itemBytes opens callouts ≡ take (16 * (i + 1)) next ++ itemBytes (drop (i + 1) opens) (drop (i + 1) callouts))
 unfolding itemBytes
 items-more opens callouts out y i e s h inv q =
@@ -79,14 +79,17 @@ items-more opens callouts out y i e s h inv q =
     let rest = itemBytes (drop (suc i) opens) (drop (suc i) callouts) in
     let parts : itemBytes (drop i opens) (drop i callouts) ≡ y ++ rest =
     ap₂ itemBytes (drop-cons opens i 0 h) (drop-cons callouts i 0 (omega arith)) ∙ sym (append-assoc w c rest) ∙ ap (_++ rest) (sym q) in
-    rw (size, add-one, next)
-    (put-length (16 * i) 16 out y long (omega arith), put-more (16 * i) 16 out y long (omega arith) (itemBytes opens callouts) rest (inv ∙ ap (take (16 * i) out ++_) parts))
+    rw (size, add-one, next) (
+      put-length (16 * i) 16 out y long (omega arith),
+      put-more (16 * i) 16 out y long (omega arith) (itemBytes opens callouts) rest (inv ∙ ap (take (16 * i) out ++_) parts),
+    )
 
 pub items-done : (opens callouts out : List ℕ) (i : ℕ) → length out ≡ 16 * length opens → i ≡ length opens
     → itemBytes opens callouts ≡ take (16 * i) out ++ itemBytes (drop i opens) (drop i callouts) → out ≡ itemBytes opens callouts
 unfolding itemBytes
 items-done opens callouts out i s e inv =
-    sym (inv ∙ ap (λ l. take (16 * i) out ++ itemBytes l (drop i callouts)) (drop-of-length-le opens {i = i} (omega arith)) ∙ append-nil (take (16 * i) out) ∙ take-all (16 * i) out (omega arith))
+    sym (inv ∙ ap (λ l. take (16 * i) out ++ itemBytes l (drop i callouts)) (drop-of-length-le opens {i = i} (omega arith))
+    ∙ append-nil (take (16 * i) out) ∙ take-all (16 * i) out (omega arith))
 
 -- ---- a block
 

@@ -13,8 +13,8 @@ use lib.Seq.{take-at, drop-at, drop-drop, getD-append-add}
 use Rattle.model.specs.declared.Edition.{Edition}
 use Rattle.model.specs.Lists.{any}
 use Rattle.model.specs.Rota.{cellCode, tableCode}
-use Rattle.model.specs.File.{fromBytes, blocksFor, body, checked, blocks, fileBytes, cut, blocksIn, itemsIn, slotsIn, wordsEvery16, wordsIn, opensIn, calloutsIn}
-use Rattle.model.specs.File.{checkWrong, blocksLaid, laidOut, fileCode}
+use Rattle.model.specs.File.{fromBytes, blocksFor, body, checked, blocks, fileBytes, cut, blocksIn, itemsIn, slotsIn, wordsEvery16, wordsIn}
+use Rattle.model.specs.File.{opensIn, calloutsIn, checkWrong, blocksLaid, laidOut, fileCode}
 use Rattle.model.proofs.Members.{neither}
 use Rattle.model.proofs.Accepted.{passed, Tables, tables-from, tables-into, accepted}
 use Rattle.model.proofs.Parts.{take-drop-take, two-parts, Numbers, numbers-take, numbers-drop}

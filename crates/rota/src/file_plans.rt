@@ -72,8 +72,8 @@ pub extern "C" fn rota_file_first_plan(file: &[u8], plan: &mut [u8]) -> u32
 #[no_mangle]
 pub extern "C" fn rota_file_next_plan(file: &[u8], plan: &mut [u8]) -> u32
     ensures code { λ r. ⌜ r ≡ fileNext Edition.One (now (file .entry)) (length (now (plan .entry))) (record { slots = take 64 (now (plan .entry)) }) .code ⌝ }
-    ensures plan { λ _. ⌜ now (plan .exit)
-        ≡ bufferAfter (fileNext Edition.One (now (file .entry)) (length (now (plan .entry))) (record { slots = take 64 (now (plan .entry)) })) (now (plan .entry)) ⌝ }
+    ensures plan { λ _. ⌜ now (plan .exit) ≡ bufferAfter
+        (fileNext Edition.One (now (file .entry)) (length (now (plan .entry))) (record { slots = take 64 (now (plan .entry)) })) (now (plan .entry)) ⌝ }
 {
     let found = rota_for(Edition::One, file, plan.len());
     if found.code != 0 {

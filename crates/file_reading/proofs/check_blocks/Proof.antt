@@ -14,7 +14,9 @@ abbrev μ-loop : tie.MeasureT-loop
 μ-loop edition file k wrong₀ laid₀ b₀ wrong laid b = k - b
 
 loop-again : tie.Need-loop-again Inv-loop μ-loop
-loop-again c = let at-test = c .before .before .before in checking-more (at-test .before .loop .inv) (at-test .loop-test .taken) (c .before .before .check-block .ensures)
+loop-again c =
+    let at-test = c .before .before .before in
+    checking-more (at-test .before .loop .inv) (at-test .loop-test .taken) (c .before .before .check-block .ensures)
 
 pub check-blocks-spec : {M : Type 1} → statement M
 check-blocks-spec =

@@ -10,7 +10,12 @@ use Rattle.file_reading.proofs.layout_code.Tie as tie
 
 tested : (s : tie.After-check-blocks) → let start = s .before .before .before .before .before in
     Tested (start .args .edition) (start .args .file .now) (s .check-blocks .result)
-tested s = record { whole = s .before .before .before .if1 .left; some = s .before .before .if2 .left; few = s .before .if3 .left; found = s .check-blocks .ensures }
+tested s = record {
+  whole = s .before .before .before .if1 .left;
+  some = s .before .before .if2 .left;
+  few = s .before .if3 .left;
+  found = s .check-blocks .ensures;
+}
 
 counted : (s : tie.Else6) → let checked = s .before .before .before .before .before in let start = checked .before .before .before .before .before in
     Counted (start .args .edition) (start .args .file .now) (checked .check-blocks .result) (s .before .before .wide .result)
@@ -45,4 +50,5 @@ layout-code-spec =
     (λ c. says-12 _ (c .before .before .before .args .file .now) (λ e. omega arith) (λ e. omega arith) (λ e. omega arith))
     (λ c. says-12 _ (c .before .before .before .before .args .file .now) (λ e. omega arith) (λ e. omega arith) (λ e. omega arith))
     (λ c κs. search needs) (λ c. says-13 (tested (c .before)) (c .if4 .taken)) (λ c. search needs) (λ c κs. search needs) returns-5 returns-6
-    (λ c κs. search needs) (λ c. other-blocks (counted (c .before .before)) (λ e. c .if7 .taken (e ∙ sym (c .before .blocks-for .ensures .0)))) returns-8 returns-9)
+    (λ c κs. search needs) (λ c. other-blocks (counted (c .before .before)) (λ e. c .if7 .taken (e ∙ sym (c .before .blocks-for .ensures .0))))
+    returns-8 returns-9)

@@ -1,11 +1,11 @@
 -- `rota_in` meets its contract: its tests are the definition's, in their order. Assumes nothing.
-use mathlib.Core.Path.{refl, sym, _∙_}
+use mathlib.Core.Path.{_≡_, refl, sym, _∙_}
 use Prim.Native.Nat.{_≤_}
 use native.Mathlib.Omega.{arith}
 use borrow.Author.Needs.{needs}
 use lib.ListN.{length}
 use lib.Seq.{length-take-le}
-use Rattle.model.specs.File.{itemsIn}
+use Rattle.model.specs.File.{itemsIn, slotsIn}
 use Rattle.model.proofs.Editions.{slots-few}
 use Rattle.file_reading.proofs.Inside.{Room, room-for, front-enough, refuses-layout, refuses-cells, holds-rota}
 use Rattle.file_reading.proofs.rota_in.Statement.{statement}
@@ -38,6 +38,10 @@ cell-code-requires c κs =
       length-take-le _ _ (callouts-enough at-callouts) ∙ sym (length-take-le _ _ (opens-enough (at-callouts .before))),
     )
 
+slots : (s : tie.After-wide2) → let args = s .before .before .before .before .before .before .before .args in
+    s .wide2 .result ≡ slotsIn (args .edition) (args .file .now)
+slots s = s .wide2 .ensures ∙ s .before .slots-in .ensures
+
 returns-2 : tie.Need-returns-2
 returns-2 c =
     let at-cells = c .before .before in
@@ -46,7 +50,7 @@ returns-2 c =
     let at-items = at-slots .before .before in
     let at-layout = at-items .before .before in
     c .no-rota2 .ensures
-    ∙ refuses-cells _ _ _ (at-layout .before .layout-code .ensures .0) (at-layout .if1 .left) (room at-items) (at-slots .wide2 .ensures ∙ at-slots .before .slots-in .ensures)
+    ∙ refuses-cells _ _ _ (at-layout .before .layout-code .ensures .0) (at-layout .if1 .left) (room at-items) (slots at-slots)
     (at-callouts .before .words-in .ensures) (at-callouts .words-in2 .ensures) (at-cells .cell-code .ensures) (c .before .if2 .taken)
 
 returns-3 : tie.Need-returns-3
@@ -56,7 +60,7 @@ returns-3 c =
     let at-slots = at-callouts .before .before in
     let at-items = at-slots .before .before in
     let at-layout = at-items .before .before in
-    holds-rota _ _ _ (at-layout .before .layout-code .ensures .0) (at-layout .if1 .left) (room at-items) (at-slots .wide2 .ensures ∙ at-slots .before .slots-in .ensures)
+    holds-rota _ _ _ (at-layout .before .layout-code .ensures .0) (at-layout .if1 .left) (room at-items) (slots at-slots)
     (at-callouts .before .words-in .ensures) (at-callouts .words-in2 .ensures) (at-cells .cell-code .ensures) (c .if2 .left)
 
 pub rota-in-spec : {M : Type 1} → statement M
@@ -64,6 +68,7 @@ rota-in-spec =
     tie.close (tie.spec (λ c κs. search needs) (λ c κs. search needs)
     (λ c. c .no-rota .ensures ∙ refuses-layout _ _ _ (c .before .before .layout-code .ensures .0) (c .before .if1 .taken)) shared-slice-read-wide
     (λ c κs. search needs) (λ c κs. omega (arith, room c .some)) (λ c κs. search needs)
-    (λ c κs. let r = room (c .before .before) in (omega arith, r .few, r .enough)) (λ c κs. let r = room (c .before .before .before) in (omega arith, r .few, r .enough))
+    (λ c κs. let r = room (c .before .before) in (omega arith, r .few, r .enough))
+    (λ c κs. let r = room (c .before .before .before) in (omega arith, r .few, r .enough))
     (λ c. opens-enough (c .before)) (λ c. sym (length-take-le _ _ (opens-enough (c .before .before)))) (λ c. callouts-enough (c .before))
     (λ c. sym (length-take-le _ _ (callouts-enough (c .before .before)))) cell-code-requires (λ c κs. search needs) returns-2 returns-3)

@@ -18,10 +18,9 @@ abbrev μ-loop : tie.MeasureT-loop
 loop-again : tie.Need-loop-again Inv-loop μ-loop
 loop-again c =
     let at-loop = c .before .before .before in
-    let at-start = at-loop .before .before in (
-      omega arith,
-      values-more (at-start .args .file .now) _ _ (at-start .pre .2) (at-loop .loop .inv .1) (at-start .pre .0) (at-start .pre .1) (omega arith) (c .from-bytes .ensures),
-    )
+    let file = at-loop .before .before .args .file .now in
+    let pre = at-loop .before .before .pre in
+    (omega arith, values-more file _ _ (pre .2) (at-loop .loop .inv .1) (pre .0) (pre .1) (omega arith) (c .from-bytes .ensures))
 
 returns : tie.Need-returns Inv-loop μ-loop
 returns c =

@@ -6,9 +6,12 @@ use Rattle.file_writing.proofs.write_block.Tie as tie
 
 returns : tie.Need-returns
 returns c =
-    let start = c .before .before .before .before .before .before .before .before .before .before .before .before .before .before in
+    let at-two = c .before .before in
+    let at-check = at-two .before .before in
+    let at-body = at-check .before .before .before .before .before in
+    let start = at-body .before .before .before .before .before in
     block-written _ _ _ _ (start .args .opens .now) (start .args .callouts .now) (start .args .block .now) _ _ _ (start .pre .0) (start .pre .1) (start .pre .2)
-    (c .before .before .before .before .before .before .before .before .before .write-body .ensures) (c .before .before .before .before .check-of .ensures) (c .before .before .put-low .ensures)
+    (at-body .write-body .ensures) (at-check .check-of .ensures) (at-two .put-low .ensures)
 
 pub write-block-spec : {M : Type 1} → statement M
 write-block-spec =

@@ -34,7 +34,8 @@ write-block-requires c κs =
 loop-again : tie.Need-loop-again Inv-loop μ-loop
 loop-again c =
     let at-items = c .before .before .before .before .before .before in
-    blocks-more (at-items .before .before .loop .inv) (at-items .before .loop-test .taken) (at-items .items-of .ensures .0) (c .before .before .write-block .ensures)
+    blocks-more (at-items .before .before .loop .inv) (at-items .before .loop-test .taken) (at-items .items-of .ensures .0)
+    (c .before .before .write-block .ensures)
 
 pub write-blocks-spec : {M : Type 1} → statement M
 write-blocks-spec =

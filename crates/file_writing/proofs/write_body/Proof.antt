@@ -6,9 +6,12 @@ use Rattle.file_writing.proofs.write_body.Tie as tie
 
 returns : tie.Need-returns
 returns c =
-    let start = c .before .before .before .before .before .before .before .before .before .before .before .before .before .before .before in
+    let at-zeros = c .before .before in
+    let at-items = at-zeros .before .before .before .before in
+    let at-header = at-items .before .before .before .before in
+    let start = at-header .before .before .before .before .before in
     body-written _ _ _ _ (start .args .opens .now) (start .args .callouts .now) (start .args .out .now) _ _ _ (start .pre .0) (start .pre .1) (start .pre .2)
-    (c .before .before .before .before .before .before .before .before .before .before .write-header .ensures) (c .before .before .before .before .before .before .write-items .ensures) (c .before .before .clear .ensures)
+    (at-header .write-header .ensures) (at-items .write-items .ensures) (at-zeros .clear .ensures)
 
 pub write-body-spec : {M : Type 1} → statement M
 write-body-spec =

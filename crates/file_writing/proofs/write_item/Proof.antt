@@ -6,8 +6,9 @@ use Rattle.file_writing.proofs.write_item.Tie as tie
 
 returns : tie.Need-returns
 returns c =
-    let start = c .before .before .before .before .before .before .before .before .before in
-    item-written _ _ (start .args .out .now) _ _ (start .pre) (c .before .before .before .before .before .before .put-low .ensures) (c .before .before .put-low2 .ensures)
+    let at-open = c .before .before .before .before .before .before in
+    let start = at-open .before .before .before in
+    item-written _ _ (start .args .out .now) _ _ (start .pre) (at-open .put-low .ensures) (c .before .before .put-low2 .ensures)
 
 pub write-item-spec : {M : Type 1} → statement M
 write-item-spec =

@@ -10,17 +10,20 @@ use Rattle.file_writing.proofs.write_items.Statement.{statement}
 use Rattle.file_writing.proofs.write_items.Tie as tie
 
 abbrev Inv-loop : tie.InvT-loop
-Inv-loop opens callouts out₀ i₀ out i = (i ≤ length opens) × (length out ≡ length out₀) × (itemBytes opens callouts ≡ take (16 * i) out ++ itemBytes (drop i opens) (drop i callouts))
+Inv-loop opens callouts out₀ i₀ out i =
+    (i ≤ length opens) × (length out ≡ length out₀) × (itemBytes opens callouts ≡ take (16 * i) out ++ itemBytes (drop i opens) (drop i callouts))
 
 abbrev μ-loop : tie.MeasureT-loop
 μ-loop opens callouts out₀ i₀ out i = length opens - i
 
 loop-again : tie.Need-loop-again Inv-loop μ-loop
 loop-again c =
-    let head = c .before .before .before .before .before .before .before in
-    let start = head .before .before .before .before in
-    let r = items-more (start .args .opens .now) (start .args .callouts .now) (head .loop .out) _ (head .loop .i) (start .pre .0) (omega arith) (omega arith) (head .loop .inv .2) (c .before .before .write-item .ensures) in
-    (omega arith, r .0 ∙ head .loop .inv .1, r .1)
+    let at-loop = c .before .before .before .before .before .before .before in
+    let start = at-loop .before .before .before .before in
+    let l = at-loop .loop in
+    let r = items-more (start .args .opens .now) (start .args .callouts .now) (l .out) _ (l .i) (start .pre .0) (omega arith) (omega arith) (l .inv .2)
+    (c .before .before .write-item .ensures) in
+    (omega arith, r .0 ∙ l .inv .1, r .1)
 
 returns : tie.Need-returns Inv-loop μ-loop
 returns c =

@@ -18,7 +18,9 @@ unfolding mark
 returns-2 c =
     let at = c .before .before .before in
     let start = at .before .before .before .before .before .before in
-    c .same2 .ensures ∙ head-rest _ (start .args .head .now) _ _ _ _ (start .pre) _ (at .fields .ensures) (sym (at .before .before .same .ensures) ∙ not-false _ (at .before .if1 .left))
+    c .same2 .ensures
+    ∙ head-rest _ (start .args .head .now) _ _ _ _ (start .pre) _ (at .fields .ensures)
+    (sym (at .before .before .same .ensures) ∙ not-false _ (at .before .if1 .left))
 
 pub header-laid-spec : {M : Type 1} → statement M
 header-laid-spec =

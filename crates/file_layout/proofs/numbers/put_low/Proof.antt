@@ -10,7 +10,8 @@ use Rattle.file_layout.proofs.numbers.put_low.Statement.{statement}
 use Rattle.file_layout.proofs.numbers.put_low.Tie as tie
 
 abbrev Inv-loop : tie.InvT-loop
-Inv-loop x out₀ rest₀ i₀ out rest i = (i ≤ length out₀) × (length out ≡ length out₀) × (lowBytes (length out₀) x ≡ take i out ++ lowBytes (length out₀ - i) rest)
+Inv-loop x out₀ rest₀ i₀ out rest i =
+    (i ≤ length out₀) × (length out ≡ length out₀) × (lowBytes (length out₀) x ≡ take i out ++ lowBytes (length out₀ - i) rest)
 
 abbrev μ-loop : tie.MeasureT-loop
 μ-loop x out₀ rest₀ i₀ out rest i = length out₀ - i
@@ -22,13 +23,13 @@ loop-holds c =
 
 loop-again : tie.Need-loop-again Inv-loop μ-loop
 loop-again c =
-    let head = c .before in
-    (omega arith, simp length-set (head .loop .inv .1), low-more _ _ (head .loop .out) (head .loop .rest) (head .loop .i) (head .loop .inv .1) (head .loop .inv .2) (omega arith))
+    let l = c .before .loop in
+    (omega arith, simp length-set (l .inv .1), low-more _ _ (l .out) (l .rest) (l .i) (l .inv .1) (l .inv .2) (omega arith))
 
 returns : tie.Need-returns Inv-loop μ-loop
 returns c =
-    let head = c .before in
-    low-done _ _ (head .loop .out) (head .loop .rest) (head .loop .i) (head .loop .inv .1) (head .loop .inv .2) (omega arith)
+    let l = c .before .loop in
+    low-done _ _ (l .out) (l .rest) (l .i) (l .inv .1) (l .inv .2) (omega arith)
 
 pub put-low-spec : {M : Type 1} → statement M
 put-low-spec =

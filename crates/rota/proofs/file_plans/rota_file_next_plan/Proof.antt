@@ -25,8 +25,8 @@ returns : tie.Need-returns
 unfolding fileNext
 returns c =
     let start = c .before .before .before .before .before .args in
-    refused-by-file Edition.One (start .file .now) (start .plan .now) (c .before .before .rota-for .ensures) (after (record { slots = take 64 (start .plan .now) }))
-    (c .if1 .taken)
+    let given : Plan = record { slots = take 64 (start .plan .now) } in
+    refused-by-file Edition.One (start .file .now) (start .plan .now) (c .before .before .rota-for .ensures) (after given) (c .if1 .taken)
 
 returns-2 : tie.Need-returns-2
 unfolding fileNext

@@ -29,7 +29,8 @@ returns-2 : tie.Need-returns-2
 returns-2 c =
     let at-file = c .before in
     let start = at-file .before .before .before .before .before .args in
-    refuses-opens Edition.One (start .file .now) (start .opens .now) (start .callouts .now) (at-file .before .rota-in .ensures) (at-file .if1 .left) (c .if2 .taken)
+    refuses-opens Edition.One (start .file .now) (start .opens .now) (start .callouts .now) (at-file .before .rota-in .ensures) (at-file .if1 .left)
+    (c .if2 .taken)
 
 returns-3 : tie.Need-returns-3
 returns-3 c =

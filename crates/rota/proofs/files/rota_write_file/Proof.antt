@@ -27,7 +27,8 @@ write-blocks-requires : tie.Need-write-blocks-requires
 write-blocks-requires c κs =
     let at-table = c .before .before .before .before in
     let start = at-table .before .before .before .before .args in
-    let t = tables-from (start .n) (start .n) (start .opens .now) (start .callouts .now) (sym (at-table .table-code .ensures) ∙ c .before .before .before .if1 .left) in
+    let accepted = sym (at-table .table-code .ensures) ∙ c .before .before .before .if1 .left in
+    let t = tables-from (start .n) (start .n) (start .opens .now) (start .callouts .now) accepted in
     (t .few-items, t .few-items, t .open-words, t .callout-words, simp length-take (omega arith))
 
 returns-3 : tie.Need-returns-3
