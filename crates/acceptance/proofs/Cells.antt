@@ -43,10 +43,11 @@ module _ {m beyond closed i : ℕ} {opens callouts : List ℕ} (same : length ca
       let w = getD opens i 0 in
       let c = getD callouts i 0 in
       let d = drop-cons opens i 0 h in
+      let e = drop-cons callouts i 0 (omega arith) in
       record {
         within = omega arith;
         high = rw add-one (gathered beyond (minus w (low m)) (leb (2 ^ m) w) _ (ap (beyondIn m) d) (has-from m w few l) (g .high));
-        stray = rw add-one (gathered closed (minus c w) (not (eqb (minus c w) 0)) _ (ap₂ strayCallout d (drop-cons callouts i 0 (omega arith))) refl (g .stray));
+        stray = rw add-one (gathered closed (minus c w) (not (eqb (minus c w) 0)) _ (ap₂ strayCallout d e) refl (g .stray));
       }
 
   pub faults-done : i ≡ length opens → {r : ℕ} → r ≡ cond (eqb beyond 0) (cond (eqb closed 0) 0 4) 3 → r ≡ cellCode m opens callouts

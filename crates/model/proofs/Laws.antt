@@ -37,7 +37,7 @@ callouts-le callouts p =
       sum-const 1 (length callouts),
     )
 
-empty-list : {A : Type 0} (l : List A) → ((x : A) → List·Memᴰ x l → ⊥) → l ≡ []
+pub empty-list : {A : Type 0} (l : List A) → ((x : A) → List·Memᴰ x l → ⊥) → l ≡ []
 empty-list [] f = refl
 empty-list (x ∷ l) f = absurd (f x (List·Memᴰ·head refl))
 

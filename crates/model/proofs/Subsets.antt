@@ -24,9 +24,10 @@ use Rattle.model.specs.Plans.{arrangements, cellsOpen, matchings}
 use Rattle.model.specs.Count.{count, subsetCount}
 use Rattle.model.proofs.Members.{keep-all, keep-le, keep-from}
 use Rattle.model.proofs.Sets.{bit-is, members-from, length-members}
+use Rattle.model.proofs.Laws.{empty-list}
 use Rattle.model.proofs.Plans.{arrangements-from, cells-open-length}
 use Rattle.model.proofs.Permanent.{count-matchings}
-use Rattle.model.proofs.Supports.{no-members, ways-by-set}
+use Rattle.model.proofs.Supports.{ways-by-set}
 use Rattle.model.proofs.Ways.{keep-same, keep-keep, total-keep, ways, ways-snoc, length-flatMap}
 
 -- ---- one slot less
@@ -58,9 +59,9 @@ members-without m set j = keep-keep (has set) (λ x. not (eqb j x)) (below m) �
 -- more slots than items
 too-many : (opens slots : List ℕ) (k : ℕ) → length opens < k → length (matchings opens k slots) ≡ 0
 unfolding matchings
-too-many opens slots k h = no-members _ (λ p m.
+too-many opens slots k h = ap length (empty-list _ (λ p m.
     let r = keep-from (cellsOpen opens) (arrangements k slots) m in
-    omega (arith, arrangements-from k slots (r .0) .sized, cells-open-length opens p (r .1)))
+    omega (arith, arrangements-from k slots (r .0) .sized, cells-open-length opens p (r .1))))
 
 module _ (m : ℕ) (opens : List ℕ) where
   -- of sets no larger than the items are many
@@ -132,7 +133,9 @@ module _ (m : ℕ) (opens : List ℕ) where
       count-matchings m opens ∙ ways-by-set m opens ∙ sum-cong _ _ (2 ^ m) (λ set h. at set (ℕ-discrete (ones set) (length opens)))
     where
       at : (set : ℕ) → Dec (ones set ≡ length opens) → cond (eqb (ones set) (length opens)) (ways opens (members m set)) 0 ≡ complete set
-      at set (yes e) = ap (λ x. cond (eqb (ones set) (length opens)) x 0) (sym (subset-ways set (length opens) e (omega arith) ∙ ap (λ l. ways l (members m set)) (take-length opens)))
+      at set (yes e) =
+          let all = ap (λ l. ways l (members m set)) (take-length opens) in
+          ap (λ x. cond (eqb (ones set) (length opens)) x 0) (sym (subset-ways set (length opens) e (omega arith) ∙ all))
       at set (no d) = simp (ne-eqb _ _ d)
 
 -- ---- no sum of words is above 20!
@@ -150,7 +153,8 @@ unfolding keep
 keep-less f [] h e = absurd (List·Memᴰ·not-nil h)
 keep-less f {x} (y ∷ l) h e = go (f y) refl (List·Memᴰ·cases-cons h) (λ g. keep-less f l g e)
   where
-    go : (b : Bool) → f y ≡ b → (x ≡ y) ⊎ List·Memᴰ x l → (List·Memᴰ x l → length (keep f l) < length l) → length (cond b (y ∷ keep f l) (keep f l)) < suc (length l)
+    go : (b : Bool) → f y ≡ b → (x ≡ y) ⊎ List·Memᴰ x l → (List·Memᴰ x l → length (keep f l) < length l)
+        → length (cond b (y ∷ keep f l) (keep f l)) < suc (length l)
     go false q d ih = omega (arith, keep-le f l)
     go true q (inl s) ih = absurd (let z : true ≡ false = sym q ∙ ap f (sym s) ∙ e in subst T z tt)
     go true q (inr g) ih = omega (arith, ih g)

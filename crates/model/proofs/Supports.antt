@@ -1,6 +1,6 @@
 -- The slots that an arrangement takes, as a set; the ways to give the items slots, set by set. Assumes nothing.
 use mathlib.Core.Path.{_≡_, refl, sym, ap, ap₂, _∙_, subst}
-use mathlib.Core.Logic.{_≢_, _⊎_, inl, inr, ⊎-elim}
+use mathlib.Core.Logic.{_⊎_, inl, inr, ⊎-elim}
 use mathlib.Core.Bool.{Bool, true, false, cond}
 use mathlib.Core.List.{List, [], _∷_, List·Memᴰ, List·Memᴰ·head, List·Memᴰ·tail, List·Memᴰ·not-nil, List·Memᴰ·cases-cons}
 use Prim.Native.Nat.{ℕ, zero, suc, _+_, _^_, _<_}
@@ -21,17 +21,15 @@ use Rattle.model.specs.Lists.{keep, remove, Before, Chain, Rising}
 use Rattle.model.specs.Sets.{members}
 use Rattle.model.specs.Plans.{arrangements, cellsOpen, matchings}
 use Rattle.model.proofs.Members.{keep-from, keep-into, mem-at, place-of, remove-from}
+use Rattle.model.proofs.Laws.{empty-list}
 use Rattle.model.proofs.Order.{chain-below, chain-keep, arrangements-rise, rising-same}
 use Rattle.model.proofs.Sets.{one, members-from, members-into}
 use Rattle.model.proofs.Plans.{IsArrangement, arrangements-from, arrangements-into, tail-arrangement}
 use Rattle.model.proofs.Ways.{ways}
 
-pub no-members : {A : Type 0} (l : List A) → ((x : A) → List·Memᴰ x l → ⊥) → length l ≡ 0
-no-members [] h = refl
-no-members (x ∷ l) h = absurd (h x (List·Memᴰ·head refl))
-
 arrangement-inside : {x k : ℕ} {slots p : List ℕ} → IsArrangement k slots p → List·Memᴰ x p → List·Memᴰ x slots
-arrangement-inside {x} {k} {slots} {p} a h = let r = place-of 0 p h in subst (λ y. List·Memᴰ y slots) (r .2) (a .inside (r .0) (omega (arith, a .sized, r .1)))
+arrangement-inside {slots = slots} {p = p} a h =
+    let r = place-of 0 p h in subst (λ y. List·Memᴰ y slots) (r .2) (a .inside (r .0) (omega (arith, a .sized, r .1)))
 
 -- the slots that a list names, as a set
 support : List ℕ → ℕ
@@ -149,7 +147,7 @@ module _ (m : ℕ) (opens : List ℕ) where
           ≡ cond (eqb (ones set) (length opens)) (length (matchings opens (length opens) (members m set))) 0
       at set h (yes e) = ap length (taking set h e) ∙ sym (ap (λ b. cond b (length (matchings opens (length opens) (members m set))) 0) (eq-eqb _ _ e))
       at set h (no d) =
-          no-members _ (λ p l.
+          ap length (empty-list _ (λ p l.
           let r = keep-from (λ p. eqb (support p) set) _ l in
-          d (ap ones (sym (eqb→eq (support p) set (r .1))) ∙ support-size _ _ p (arranged (r .0))))
+          d (ap ones (sym (eqb→eq (support p) set (r .1))) ∙ support-size _ _ p (arranged (r .0)))))
           ∙ sym (ap (λ b. cond b (length (matchings opens (length opens) (members m set))) 0) (ne-eqb _ _ d))

@@ -4,7 +4,7 @@ use mathlib.Core.Logic.{_≢_, ⊎-elim}
 use mathlib.Core.Bool.{cond}
 use mathlib.Core.List.{List, _++_}
 use Prim.Native.Nat.{ℕ, suc, _+_, _-_, _*_, _^_, _≤_, _<_}
-use native.Mathlib.Nat.{zero-add, zero-mul, le-refl}
+use native.Mathlib.Nat.{zero-add, zero-mul}
 use native.Mathlib.Decide.{le-ind}
 use native.Mathlib.Numerals.{add-one}
 use native.Mathlib.Omega.{arith}
@@ -47,8 +47,8 @@ module _ (m : ℕ) (opens : List ℕ) where
   table-at i l = map-below (subsetCount m opens) 0 (2 ^ m) i l
 
   -- one word more
-  stored : (old : List ℕ) {counts : List ℕ} {s ways : ℕ} → 2 ^ m ≤ length old → s < 2 ^ m → counts ≡ paste old 0 (subsetCounts m opens) s → ways ≡ subsetCount m opens s
-      → set counts s ways ≡ paste old 0 (subsetCounts m opens) (suc s)
+  stored : (old : List ℕ) {counts : List ℕ} {s ways : ℕ} → 2 ^ m ≤ length old → s < 2 ^ m → counts ≡ paste old 0 (subsetCounts m opens) s
+      → ways ≡ subsetCount m opens s → set counts s ways ≡ paste old 0 (subsetCounts m opens) (suc s)
   stored old {s = s} room h f e =
       ap₂ (λ l v. set l s v) f (e ∙ sym (table-at s h))
       ∙ ap (λ i. set (paste old 0 (subsetCounts m opens) s) i (getD (subsetCounts m opens) s 0)) (sym (zero-add s))
@@ -84,7 +84,8 @@ module _ {m : ℕ} {opens old counts : List ℕ} {end s plans : ℕ} (u : Upward
 
   known : (i : ℕ) → i < s → getD counts i 0 ≡ subsetCount m opens i
   known i h =
-      let short : i < length (take s (subsetCounts m opens)) = omega (arith, length-take-le s (subsetCounts m opens) (omega (arith, length-table m opens, u .within))) in
+      let all = length-take-le s (subsetCounts m opens) (omega (arith, length-table m opens, u .within)) in
+      let short : i < length (take s (subsetCounts m opens)) = omega arith in
       rw (u .filled, List·getD-append, getD-take) (table-at m opens i (omega (arith, u .within)))
 
   module _ (more : s < end) where
@@ -134,7 +135,6 @@ pub finish : {m : ℕ} {opens : List ℕ} (old : List ℕ) {counts : List ℕ} {
 unfolding written
 finish {m} {opens} old {s = s} u l =
     let all : s ≡ 2 ^ m = omega (arith, u .last, u .within) in
-    let full : s ≡ length (subsetCounts m opens) = omega (arith, length-table m opens) in (
-      u .summed ∙ ap (sum (complete m opens)) all ∙ sym (count-by-set m opens),
-      rw (u .filled, full, take-length, zero-add) (ap (subsetCounts m opens ++_) (drop-set-lt (length (subsetCounts m opens)) old 0 1 (omega (arith, length-table m opens, pow-pos m)))),
-    )
+    let full : s ≡ length (subsetCounts m opens) = omega (arith, length-table m opens) in
+    let first : 0 < length (subsetCounts m opens) = omega (arith, length-table m opens, pow-pos m) in
+    (u .summed ∙ ap (sum (complete m opens)) all ∙ sym (count-by-set m opens), rw (u .filled, full, take-length, zero-add, drop-set-lt) refl)

@@ -31,4 +31,6 @@ cell-code-spec = tie.close (tie.spec Inv-loop μ-loop
     (λ c. omega arith)
     (λ c. let at-loop = c .before .before .before in omega (arith, at-loop .before .before .before .good))
     (λ c. omega arith) (λ c κs. search needs) (λ c κs. search needs) (λ c. omega arith) (λ c. omega arith) loop-again (λ c κs. search needs)
-    (λ c. let at-loop = c .before .before in faults-done (at-loop .before .before .before .before .pre .1) (at-loop .loop .inv) (omega arith) (c .first-code .ensures)))
+    (λ c.
+    let at-loop = c .before .before in
+    faults-done (at-loop .before .before .before .before .pre .1) (at-loop .loop .inv) (omega arith) (c .first-code .ensures)))

@@ -32,7 +32,9 @@ count-subsets-spec = tie.close (tie.spec Inv-loop μ-loop
     (λ c κs. search needs)
     (λ c. let at-start = c .before .before .before in omega (arith, at-start .pre .1, pow-pos (at-start .args .m)))
     (λ c κs. search needs)
-    (λ c. let at-start = c .before .before .before .before in start (at-start .args .counts .now) (at-start .pre) (c .before .single .ensures) (c .complete .ensures))
+    (λ c.
+    let at-start = c .before .before .before .before in
+    start (at-start .args .counts .now) (at-start .pre) (c .before .single .ensures) (c .complete .ensures))
     (λ c κs. search needs)
     (λ c κs. sized (c .before .before .loop .inv) (c .before .loop-test .taken) (c .size .ensures))
     (λ c κs. let at-word = c .before in

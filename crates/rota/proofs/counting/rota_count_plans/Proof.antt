@@ -15,4 +15,6 @@ rota-count-plans-spec = tie.close (tie.spec
     (λ c. count-refused _ _ _ _ (c .before .before .before .before .before .args .tally .now) _ (c .before .count-code .ensures) (c .if1 .taken))
     (λ c κs. able (c .before) .sizes)
     (λ c. search needs)
-    (λ c. let at-count = c .before .before in count-done (able (at-count .before .before)) (at-count .count-subsets .ensures .0) (at-count .count-subsets .ensures .1)))
+    (λ c.
+    let at-count = c .before .before in
+    count-done (able (at-count .before .before)) (at-count .count-subsets .ensures .0) (at-count .count-subsets .ensures .1)))

@@ -4,11 +4,8 @@ use Rattle.rota.proofs.Stepping.{step-refused, step-done}
 use Rattle.rota.proofs.lister.step.Statement.{statement}
 use Rattle.rota.proofs.lister.step.Tie as tie
 
-returns : tie.Need-returns
-returns c = step-refused _ _ _ _ _ _ (c .before .answer .ensures) (c .if1 .taken)
-
-returns-2 : tie.Need-returns-2
-returns-2 c = step-done _ _ _ _ _ _ (c .before .before .answer .ensures) (c .before .if1 .left)
-
 pub step-spec : {M : Type 1} → statement M
-step-spec = tie.close (tie.spec (λ c κs. search needs) returns returns-2)
+step-spec = tie.close (tie.spec
+    (λ c κs. search needs)
+    (λ c. step-refused _ _ _ _ _ _ (c .before .answer .ensures) (c .if1 .taken))
+    (λ c. step-done _ _ _ _ _ _ (c .before .before .answer .ensures) (c .before .if1 .left)))

@@ -21,8 +21,10 @@ rota-usable-slots-spec = tie.close (tie.spec
     (λ c. sym (length-take-le _ _ (enough (passed (c .before .before .before)) (c .before .allowed-slots .ensures))))
     (λ c κs.
     let at-search = c .before .before in
-    omega (arith, at-search .before .if2 .left, length-take-le _ (at-search .allowed-slots .result) (enough (passed (at-search .before .before)) (at-search .allowed-slots .ensures))))
+    let all = length-take-le _ (at-search .allowed-slots .result) (enough (passed (at-search .before .before)) (at-search .allowed-slots .ensures)) in
+    omega (arith, at-search .before .if2 .left, all))
     (λ c. search needs)
     (λ c.
     let at-search = c .before .before .before .before .before in
-    usable-done _ _ _ _ _ (passed (at-search .before .before)) (at-search .allowed-slots .ensures) (at-search .before .if2 .left) (c .before .before .store .ensures)))
+    usable-done _ _ _ _ _ (passed (at-search .before .before)) (at-search .allowed-slots .ensures) (at-search .before .if2 .left)
+    (c .before .before .store .ensures)))
