@@ -33,9 +33,13 @@ countable n m opens callouts tally z =
     let few = size-passed m (b .0) in
     record { passed = record { code = a .0; slots = omega arith }; sizes = (few, tally-passed m (length tally) (b .1)); code = z }
 
--- the tally after a success
-pub filled : {u : List ℕ} (values tally : List ℕ) {code : ℕ} → code ≡ 0 → u ≡ written 0 values tally → u ≡ written code values tally
-filled values tally z e = e ∙ sym (ap (λ c. written c values tally) z)
+-- an answer, and the tally that a call leaves by the answer's number: kept with a refusal, filled on success
+module _ {A : Type 0} (number : A → ℕ) (answer : A) (values tally : List ℕ) where
+  pub kept : {a : A} → number a ≢ 0 → a ≡ answer → (a ≡ answer) × (tally ≡ written (number answer) values tally)
+  kept {a} d q = (q, nothing-written (number a) _ d (sym (ap number q)) values tally)
+
+  pub filled : {a : A} {u : List ℕ} → number a ≡ 0 → u ≡ written 0 values tally → a ≡ answer → (a ≡ answer) × (u ≡ written (number answer) values tally)
+  filled z f q = (q, f ∙ ap (λ c. written c values tally) (sym z ∙ ap number q))
 
 -- what an answer with a plan, or with 9, says of the number of plans
 pub record Says (m : ℕ) (opens : List ℕ) (a : PlanAnswer) : Type 0 where
@@ -63,23 +67,19 @@ count-refused n m opens callouts tally c e d = (refused-answer c _ d (sym e) cou
 pub count-done : {n m : ℕ} {opens callouts tally : List ℕ} → Countable n m opens callouts tally → {number : ℕ} → number ≡ count m opens
     → {u : List ℕ} → u ≡ written 0 (subsetCounts m opens) tally → Counts n m opens callouts tally (record { code = 0; count = number }) u
 unfolding countAnswer countTally
-count-done {tally = tally} able q f =
+count-done {m = m} {opens} {tally = tally} able q f =
     let whole : ℕ → CountAnswer = λ x. record { code = 0; count = x } in
-    (ap whole q ∙ accepted-answer _ (able .code) countRefused _, filled _ tally (able .code) f)
+    (ap whole q ∙ accepted-answer _ (able .code) countRefused _, f ∙ sym (ap (λ c. written c (subsetCounts m opens) tally) (able .code)))
 
 -- ---- the grade
 
 abbrev Grades : ℕ → ℕ → List ℕ → List ℕ → List ℕ → GradeAnswer → List ℕ → Type 0
 Grades n m opens callouts tally a u = (a ≡ gradeAnswer n m opens callouts (length tally)) × (u ≡ gradeTally n m opens callouts tally)
 
-module _ (n m : ℕ) (opens callouts tally : List ℕ) where
-  kept : (a : GradeAnswer) → a .code ≢ 0 → a ≡ gradeAnswer n m opens callouts (length tally) → Grades n m opens callouts tally a tally
-  unfolding gradeTally
-  kept a d q = (q, nothing-written (a .code) _ d (sym (ap (λ (x : GradeAnswer). x .code) q)) _ tally)
-
-  pub grade-refused : (c : ℕ) → c ≡ countCode n m opens callouts (length tally) → c ≢ 0 → Grades n m opens callouts tally (gradeRefused c) tally
-  unfolding gradeAnswer
-  grade-refused c e d = kept (gradeRefused c) d (refused-answer c _ d (sym e) gradeRefused _)
+pub grade-refused : (n m : ℕ) (opens callouts tally : List ℕ) (c : ℕ) → c ≡ countCode n m opens callouts (length tally) → c ≢ 0
+    → Grades n m opens callouts tally (gradeRefused c) tally
+unfolding gradeAnswer gradeTally
+grade-refused n m opens callouts tally c e d = kept (λ (x : GradeAnswer). x .code) _ _ tally d (refused-answer c _ d (sym e) gradeRefused _)
 
 module _ {n m : ℕ} {opens callouts tally : List ℕ} (able : Countable n m opens callouts tally) {a : PlanAnswer} (ea : a ≡ firstFrom 64 opens) where
   says : Says m opens a
@@ -90,10 +90,10 @@ module _ {n m : ℕ} {opens callouts tally : List ℕ} (able : Countable n m ope
   graded = accepted-answer _ (able .code) gradeRefused _
 
   pub grade-none : a .code ≢ 0 → Grades n m opens callouts tally (record { code = a .code; grade = 0; shortage = a .shortage; items = a .items }) tally
-  unfolding noPlan gradeBy
+  unfolding noPlan gradeBy gradeTally
   grade-none d =
       let short : PlanAnswer → GradeAnswer = λ x. record { code = x .code; grade = 0; shortage = x .shortage; items = x .items } in
-      kept n m opens callouts tally _ d (ap short (says .none d .0) ∙ sym (ap (gradeBy opens) (says .none d .1)) ∙ graded)
+      kept (λ (x : GradeAnswer). x .code) _ _ tally d (ap short (says .none d .0) ∙ sym (ap (gradeBy opens) (says .none d .1)) ∙ graded)
 
   module _ (y : a .code ≡ 0) {number : ℕ} (q : number ≡ count m opens) where
     pub some-plan : 0 < number
@@ -102,9 +102,7 @@ module _ {n m : ℕ} {opens callouts tally : List ℕ} (able : Countable n m ope
     pub grade-done : {g : ℕ} → g ≡ rotaGrade opens number → {u : List ℕ} → u ≡ written 0 (subsetCounts m opens) tally
         → Grades n m opens callouts tally (record { code = 0; grade = g; shortage = 0; items = 0 }) u
     unfolding gradeTally gradeBy
-    grade-done {g} eg f =
-        let r = go number some-plan eg ∙ ap (gradeBy opens) q ∙ graded in
-        (r, filled _ tally (sym (ap (λ (x : GradeAnswer). x .code) r)) f)
+    grade-done {g} eg f = filled (λ (x : GradeAnswer). x .code) _ _ tally refl f (go number some-plan eg ∙ ap (gradeBy opens) q ∙ graded)
       where
         go : (k : ℕ) → 0 < k → g ≡ rotaGrade opens k → record { code = 0; grade = g; shortage = 0; items = 0 } ≡ gradeBy opens k
         go zero h p = absurd (omega arith)
