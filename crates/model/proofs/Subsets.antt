@@ -1,8 +1,8 @@
 -- The subset counts: their recurrence by the last item, and their sum over the sets of as many slots as there are items, which is the
 -- count: every way to give the items slots takes one set of them. No sum of them exceeds 20!. Assumes nothing.
 use mathlib.Core.Path.{_≡_, refl, sym, ap, ap₂, _∙_, subst}
-use mathlib.Core.Logic.{_≢_, _⊎_, inl, inr}
-use mathlib.Core.Bool.{Bool, true, false, not, cond, _&&_}
+use mathlib.Core.Logic.{_⊎_, inl, inr}
+use mathlib.Core.Bool.{Bool, true, false, not, cond, _&&_, and-true, and-false}
 use mathlib.Core.List.{List, [], _∷_, map, List·Memᴰ, List·Memᴰ·cases-cons, List·Memᴰ·not-nil}
 use Prim.Native.Nat.{ℕ, zero, suc, _-_, _*_, _^_, _<_, _≤_}
 use native.Mathlib.Nat.{le-trans, le-refl, le-of-eq, zero-mul, mul-zero}
@@ -37,18 +37,8 @@ unfolding has
 has-without w j =
     at-slot (λ i. has (without w j) i ≡ (has w i && not (eqb j i))) j
     (has-false (without w j) j (bit-without w j) ∙ sym (ap (λ b. has w j && not b) (eq-eqb j j refl) ∙ and-false (has w j)))
-    (λ i d. other i d ∙ sym (ap (λ b. has w i && not b) (ne-eqb j i (λ e. d (sym e))) ∙ and-true (has w i)))
-  where
-    and-false : (b : Bool) → (b && false) ≡ false
-    and-false true = refl
-    and-false false = refl
-
-    and-true : (b : Bool) → (b && true) ≡ b
-    and-true true = refl
-    and-true false = refl
-
-    other : (i : ℕ) → i ≢ j → has (without w j) i ≡ has w i
-    other i d = ap (λ b. eqb b 1) (bit-without-other w j i d)
+    (λ i d.
+    ap (λ b. eqb b 1) (bit-without-other w j i d) ∙ sym (ap (λ b. has w i && not b) (ne-eqb j i (λ e. d (sym e))) ∙ and-true (has w i)))
 
 members-without : (m set j : ℕ) → remove j (members m set) ≡ members m (without set j)
 unfolding members remove
@@ -81,9 +71,6 @@ module _ (m : ℕ) (opens : List ℕ) where
   unfolding sum members subsetCount
   subset-step set k e = go (decLt k (length opens))
     where
-      w : ℕ
-      w = getD opens k 0
-
       less : k < length opens → (j : ℕ) → bit set j ≡ 1 → ways (take k opens) (remove j (members m set)) ≡ subsetCount m opens (without set j)
       less h j o =
           ap (ways (take k opens)) (members-without m set j) ∙ sym (subset-ways (without set j) k (omega (arith, ones-without set j o)) (omega arith))
@@ -91,26 +78,20 @@ module _ (m : ℕ) (opens : List ℕ) where
       over-members : (f : ℕ → ℕ) → total f (members m set) ≡ total (λ j. bit set j * f j) (below m)
       over-members f = total-keep (has set) f (below m) ∙ total-cong _ _ (below m) (λ j l. ap (_* f j) (sym (bit-is set j)))
 
-      go : Dec (k < length opens) → subsetCount m opens set ≡ total (λ j. bit set j * (bit w j * subsetCount m opens (without set j))) (below m)
+      go : Dec (k < length opens) → subsetCount m opens set ≡ total (λ j. bit set j * (bit (getD opens k 0) j * subsetCount m opens (without set j))) (below m)
       go (yes h) =
+          let w = getD opens k 0 in
           subset-ways set (suc k) e h
           ∙ ap (λ l. ways l (members m set)) (take-suc opens k 0 h)
           ∙ ways-snoc (take k opens) w (members m set)
           ∙ total-cong (λ j. bit w j * ways (take k opens) (remove j (members m set))) (λ j. bit w j * subsetCount m opens (without set j)) (members m set)
           (λ j l. ap (bit w j *_) (less h j (members-from m set l .1)))
           ∙ over-members (λ j. bit w j * subsetCount m opens (without set j))
-      go (no h) = zero-word ∙ sym none
-        where
-          zero-word : subsetCount m opens set ≡ 0
-          zero-word =
-              ap (λ l. length (matchings l (ones set) (members m set))) (take-all (ones set) opens (omega arith))
-              ∙ too-many opens (members m set) (ones set) (omega arith)
-
-          none : sum (λ j. bit set j * (bit w j * subsetCount m opens (without set j))) m ≡ 0
-          none = sum-none _ m (λ j l.
-              ap (λ v. bit set j * (bit v j * subsetCount m opens (without set j))) (List·getD-eq-default opens 0 {n = k} (omega arith))
-              ∙ ap (λ b. bit set j * (b * subsetCount m opens (without set j))) (bit-empty j)
-              ∙ ap (bit set j *_) (zero-mul (subsetCount m opens (without set j))) ∙ mul-zero (bit set j))
+      go (no h) =
+          let beyond : getD opens k 0 ≡ 0 = List·getD-eq-default opens 0 {n = k} (omega arith) in
+          ap (λ l. length (matchings l (ones set) (members m set))) (take-all (ones set) opens (omega arith))
+          ∙ too-many opens (members m set) (ones set) (omega arith)
+          ∙ sym (sum-none _ m (λ j l. simp (beyond, bit-empty, zero-mul, mul-zero)))
 
   -- the set of all slots, where there are as many items
   pub subset-last : length opens ≡ m → subsetCount m opens (low m) ≡ count m opens
@@ -177,12 +158,12 @@ arrangements-le (suc k) slots =
 sum-mono : (f : ℕ → ℕ) (a b : ℕ) → a ≤ b → sum f a ≤ sum f b
 sum-mono f a b h = le-ind (λ (i : ℕ). sum f a ≤ sum f i) (le-refl (sum f a)) (λ i l e. omega (arith, sum-suc f i)) b h
 
+bounded : (k : ℕ) (items slots : List ℕ) → length slots ≤ 20 → length (matchings items k slots) ≤ 2432902008176640000
+unfolding matchings fact
+bounded k items slots h = le-trans (keep-le (cellsOpen items) (arrangements k slots)) (le-trans (arrangements-le k slots) (fact-mono (length slots) 20 h))
+
 -- of up to 20 slots
 module _ (m : ℕ) (opens : List ℕ) (few : m ≤ 20) where
-  bounded : (k : ℕ) (items slots : List ℕ) → length slots ≤ 20 → length (matchings items k slots) ≤ 2432902008176640000
-  unfolding matchings fact
-  bounded k items slots h = le-trans (keep-le (cellsOpen items) (arrangements k slots)) (le-trans (arrangements-le k slots) (fact-mono (length slots) 20 h))
-
   pub subset-fits : (set : ℕ) → set < 2 ^ m → subsetCount m opens set ≤ 2432902008176640000
   unfolding subsetCount
   subset-fits set h = bounded (ones set) (take (ones set) opens) (members m set) (omega (arith, length-members m set h, ones-le m set h))

@@ -1,4 +1,6 @@
--- The slots that an arrangement takes, as a set; the ways to give the items slots, set by set. Assumes nothing.
+-- The ways to give the items slots, set by set. Each way takes a set of slots, its support, as many as there are items. The ways with
+-- one support are the ways to give the items the slots of that set. So the number of ways is the sum over the sets of so many slots.
+-- Assumes nothing.
 use mathlib.Core.Path.{_≡_, refl, sym, ap, ap₂, _∙_, subst}
 use mathlib.Core.Logic.{_⊎_, inl, inr, ⊎-elim}
 use mathlib.Core.Bool.{Bool, true, false, cond}
