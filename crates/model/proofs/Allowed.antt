@@ -52,14 +52,14 @@ module _ (m : ℕ) (opens : List ℕ) where
     -- what a search has to show of a word
     pub allowed-by : (i u : ℕ) → i < length opens → u < 2 ^ m → ((j : ℕ) → bit u j ≡ 1 → (p : List ℕ) × IsPlan opens p × (getD p i 0 ≡ j))
         → ((p : List ℕ) → IsPlan opens p → bit u (getD p i 0) ≡ 1) → allowedWord m opens i ≡ u
-    allowed-by i u h lt some all = ext m (allowedWord m opens i) u (allowed-lt i h) lt (λ j l. same j (bit-cases (allowedWord m opens i) j) (bit-cases u j))
-      where
-        same : (j : ℕ) → (bit (allowedWord m opens i) j ≡ 0) ⊎ (bit (allowedWord m opens i) j ≡ 1) → (bit u j ≡ 0) ⊎ (bit u j ≡ 1)
-            → bit (allowedWord m opens i) j ≡ bit u j
-        same j (inl a) (inl b) = a ∙ sym b
-        same j (inr a) (inr b) = a ∙ sym b
-        same j (inl a) (inr b) = let r = some j b in absurd (omega (arith, subst (λ s. bit (allowedWord m opens i) s ≡ 1) (r .2) (allowed-into (r .0) (r .1) i)))
-        same j (inr a) (inl b) = let r = allowed-from i j a in absurd (omega (arith, subst (λ s. bit u s ≡ 1) (r .2) (all (r .0) (r .1))))
+    allowed-by i u h lt some all =
+        ext m (allowedWord m opens i) u (allowed-lt i h) lt (λ j l. elim (bit-cases u j) [
+          | inl b ↦ elim (bit-cases (allowedWord m opens i) j) [
+            | inl a ↦ a ∙ sym b
+            | inr a ↦ let r = allowed-from i j a in absurd (omega (arith, rw (r .2) at (all (r .0) (r .1))))
+          ]
+          | inr b ↦ let r = some j b in (rw (r .2) at (allowed-into (r .0) (r .1) i)) ∙ sym b
+        ])
 
 -- ---- two rotas
 

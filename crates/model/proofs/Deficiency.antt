@@ -1,7 +1,7 @@
 -- The deficiency: no set is short where a plan exists; among the sets of greatest shortage exactly one is smallest; a set that
 -- is as short as any and lies in every other that is so short is the deficient set. Assumes nothing.
 use mathlib.Core.Path.{_≡_, refl, sym, ap, _∙_, subst}
-use mathlib.Core.Logic.{_≢_, ⊎-elim}
+use mathlib.Core.Logic.{_≢_, inl, inr}
 use mathlib.Core.List.{List, [], _∷_, map, List·Memᴰ, List·Memᴰ·not-nil, Memᴰ·map, Memᴰ·of-map}
 use Prim.Native.Nat.{ℕ, _+_, _-_, _^_, _<_, _≤_}
 use native.Mathlib.Nat.{le-antisymm}
@@ -32,8 +32,7 @@ module _ (opens : List ℕ) where
   neighbours-into set i j h e =
       union-into (map (λ i. getD opens i 0) (members (length opens) set)) (Memᴰ·map (λ i. getD opens i 0) (members-into (length opens) set h e)) j
 
-  pub neighbours-from : (set j : ℕ) → bit (neighbours opens set) j ≡ 1
-      → (i : ℕ) × (i < length opens) × (bit set i ≡ 1) × (bit (getD opens i 0) j ≡ 1)
+  pub neighbours-from : (set j : ℕ) → bit (neighbours opens set) j ≡ 1 → (i : ℕ) × (i < length opens) × (bit set i ≡ 1) × (bit (getD opens i 0) j ≡ 1)
   unfolding neighbours
   neighbours-from set j e =
       let r = union-from (map (λ i. getD opens i 0) (members (length opens) set)) j e in
@@ -116,29 +115,21 @@ module _ (opens : List ℕ) (m : ℕ) (range : (i : ℕ) → i < length opens �
       ones-subset m (near (bitAnd x y)) (bitAnd (near x) (near y)) (lt (bitAnd x y)) (and-lt m (near x) (near y) (lt x) (lt y))
       (λ j l. at-most (near (bitAnd x y)) (bitAnd (near x) (near y)) j (λ e.
       let r = neighbours-from opens (bitAnd x y) j e in
-      omega (
-        arith,
-        bit-and (near x) (near y) j,
-        bit-and x y (r .0),
-        bit-lt x (r .0),
-        bit-lt y (r .0),
-        r .2,
-        r .3,
-        neighbours-into opens x (r .0) j (r .1) (omega (arith, bit-and x y (r .0), bit-lt x (r .0), r .2)),
-        neighbours-into opens y (r .0) j (r .1) (omega (arith, bit-and x y (r .0), bit-lt y (r .0), r .2)),
-      ))) in
+      let of-x = neighbours-into opens x (r .0) j (r .1) (omega (arith, bit-and x y (r .0), bit-lt x (r .0), r .2)) in
+      let of-y = neighbours-into opens y (r .0) j (r .1) (omega (arith, bit-and x y (r .0), bit-lt y (r .0), r .2)) in
+      omega (arith, bit-and (near x) (near y) j, r .3))) in
       let join =
       ones-subset m (near (bitOr x y)) (bitOr (near x) (near y)) (lt (bitOr x y)) (or-lt m (near x) (near y) (lt x) (lt y))
       (λ j l. at-most (near (bitOr x y)) (bitOr (near x) (near y)) j (λ e.
       let r = neighbours-from opens (bitOr x y) j e in
-      ⊎-elim
-      (λ z. omega (arith, bit-or (near x) (near y) j, r .3, neighbours-into opens y (r .0) j (r .1) (omega (arith, bit-or x y (r .0), r .2))))
-      (λ o. omega (arith, bit-or (near x) (near y) j, r .3, neighbours-into opens x (r .0) j (r .1) o))
-      (bit-cases x (r .0)))) in
+      elim (bit-cases x (r .0)) [
+        | inl z ↦ omega (arith, bit-or (near x) (near y) j, r .3, neighbours-into opens y (r .0) j (r .1) (omega (arith, bit-or x y (r .0), r .2)))
+        | inr o ↦ omega (arith, bit-or (near x) (near y) j, r .3, neighbours-into opens x (r .0) j (r .1) o)
+      ])) in
       omega (arith, meet, join, ones-or-and m (near x) (near y) (lt x) (lt y))
     where
       at-most : (a b j : ℕ) → (bit a j ≡ 1 → 1 ≤ bit b j) → bit a j ≤ bit b j
-      at-most a b j f = ⊎-elim (λ z. omega arith) (λ o. omega (arith, f o)) (bit-cases a j)
+      at-most a b j f = elim (bit-cases a j) [ inl z ↦ omega arith | inr o ↦ omega (arith, f o) ]
 
   -- two sets that are as short as any: so is what they have in common
   meet-short : x < 2 ^ length opens → y < 2 ^ length opens → shortBy opens x ≡ deficiency opens → shortBy opens y ≡ deficiency opens
@@ -146,13 +137,9 @@ module _ (opens : List ℕ) (m : ℕ) (range : (i : ℕ) → i < length opens �
   unfolding shortBy
   meet-short hx hy ex ey =
       let n = length opens in
-      omega (
-        arith,
-        slots-meet-join,
-        ones-or-and n x y hx hy,
-        deficiency-bound opens (bitAnd x y) (and-lt n x y hx hy),
-        deficiency-bound opens (bitOr x y) (or-lt n x y hx hy),
-      )
+      let meet = deficiency-bound opens (bitAnd x y) (and-lt n x y hx hy) in
+      let join = deficiency-bound opens (bitOr x y) (or-lt n x y hx hy) in
+      omega (arith, slots-meet-join, ones-or-and n x y hx hy)
 
 module _ (opens : List ℕ) (m : ℕ) (range : (i : ℕ) → i < length opens → getD opens i 0 < 2 ^ m) where
   pub deficient-within : (y : ℕ) → y < 2 ^ length opens → shortBy opens y ≡ deficiency opens → (i : ℕ) → bit (deficientSet opens) i ≤ bit y i
@@ -169,16 +156,14 @@ module _ (opens : List ℕ) (m : ℕ) (range : (i : ℕ) → i < length opens �
 
   -- exactly one is smallest
   pub deficient-unique : (y : ℕ) → y < 2 ^ length opens → shortBy opens y ≡ deficiency opens → ones y ≡ ones (deficientSet opens) → y ≡ deficientSet opens
-  deficient-unique y h e s =
-      sym (subset-eq (length opens) (deficientSet opens) y (deficient-greatest opens .0) h (λ i l. deficient-within y h e i) (sym s))
+  deficient-unique y h e s = sym (subset-eq (length opens) (deficientSet opens) y (deficient-greatest opens .0) h (λ i l. deficient-within y h e i) (sym s))
 
 -- ---- what a search has to show of a set
 
 module _ (opens : List ℕ) (x : ℕ) (h : x < 2 ^ length opens) (most : (y : ℕ) → y < 2 ^ length opens → shortBy opens y ≤ shortBy opens x) where
   pub deficiency-by : deficiency opens ≡ shortBy opens x
   unfolding deficiency itemSets
-  deficiency-by =
-      greatest-is (shortBy opens) (below (2 ^ length opens)) x (below-into (2 ^ length opens) h) (λ y l. most y (below-from (2 ^ length opens) l))
+  deficiency-by = greatest-is (shortBy opens) (below (2 ^ length opens)) x (below-into (2 ^ length opens) h) (λ y l. most y (below-from (2 ^ length opens) l))
 
   pub deficient-set-by : ((y : ℕ) → y < 2 ^ length opens → shortBy opens y ≡ shortBy opens x → (i : ℕ) → i < length opens → bit x i ≤ bit y i)
       → deficientSet opens ≡ x

@@ -1,6 +1,6 @@
 -- The greatest and the least of a list are attained and bound it. Assumes nothing.
 use mathlib.Core.Path.{_≡_, refl, ap, subst}
-use mathlib.Core.Logic.{⊎-elim}
+use mathlib.Core.Logic.{inl, inr}
 use mathlib.Core.Bool.{Bool}
 use mathlib.Core.List.{List, [], _∷_, map, List·Memᴰ, List·Memᴰ·head, List·Memᴰ·tail, List·Memᴰ·not-nil, List·Memᴰ·cases-cons}
 use Prim.Native.Nat.{ℕ, _≤_, min, max}
@@ -19,18 +19,15 @@ module _ {A : Type 0} (f : A → ℕ) where
   pub greatest-bound : (l : List A) (x : A) → List·Memᴰ x l → f x ≤ greatest (map f l)
   unfolding greatest
   greatest-bound [] x h = absurd (List·Memᴰ·not-nil h)
-  greatest-bound (y ∷ l) x h =
-      ⊎-elim {C = f x ≤ max (f y) (greatest (map f l))} (λ e. omega (arith, ap f e)) (λ m. omega (arith, greatest-bound l x m)) (List·Memᴰ·cases-cons h)
+  greatest-bound (y ∷ l) x h = elim (List·Memᴰ·cases-cons h) [ inl e ↦ omega (arith, ap f e) | inr m ↦ omega (arith, greatest-bound l x m) ]
 
   pub greatest-some : (x : A) (l : List A) → (y : A) × List·Memᴰ y (x ∷ l) × (f y ≡ greatest (map f (x ∷ l)))
   unfolding greatest
   greatest-some x [] = (x, List·Memᴰ·head refl, omega arith)
-  greatest-some x (z ∷ l) = go (greatest-some z l) (decLe (greatest (map f (z ∷ l))) (f x))
-    where
-      go : (y : A) × List·Memᴰ y (z ∷ l) × (f y ≡ greatest (map f (z ∷ l))) → Dec (greatest (map f (z ∷ l)) ≤ f x)
-          → (y : A) × List·Memᴰ y (x ∷ z ∷ l) × (f y ≡ max (f x) (greatest (map f (z ∷ l))))
-      go r (yes h) = (x, List·Memᴰ·head refl, omega arith)
-      go r (no h) = (r .0, List·Memᴰ·tail (r .1), omega (arith, r .2))
+  greatest-some x (z ∷ l) = let r = greatest-some z l in elim (decLe (greatest (map f (z ∷ l))) (f x)) [
+    | yes h ↦ (x, List·Memᴰ·head refl, omega arith)
+    | no h ↦ (r .0, List·Memᴰ·tail (r .1), omega (arith, r .2))
+  ]
 
   pub greatest-is : (l : List A) (x : A) → List·Memᴰ x l → ((y : A) → List·Memᴰ y l → f y ≤ f x) → greatest (map f l) ≡ f x
   greatest-is [] x m h = absurd (List·Memᴰ·not-nil m)
@@ -39,19 +36,16 @@ module _ {A : Type 0} (f : A → ℕ) where
   pub least-bound : (l : List A) (x : A) → List·Memᴰ x l → least (map f l) ≤ f x
   unfolding least
   least-bound [] x h = absurd (List·Memᴰ·not-nil h)
-  least-bound (y ∷ []) x h = ⊎-elim {C = f y ≤ f x} (λ e. omega (arith, ap f e)) (λ m. absurd (List·Memᴰ·not-nil m)) (List·Memᴰ·cases-cons h)
-  least-bound (y ∷ z ∷ l) x h =
-      ⊎-elim {C = min (f y) (least (map f (z ∷ l))) ≤ f x} (λ e. omega (arith, ap f e)) (λ m. omega (arith, least-bound (z ∷ l) x m)) (List·Memᴰ·cases-cons h)
+  least-bound (y ∷ []) x h = elim (List·Memᴰ·cases-cons h) [ inl e ↦ omega (arith, ap f e) | inr m ↦ absurd (List·Memᴰ·not-nil m) ]
+  least-bound (y ∷ z ∷ l) x h = elim (List·Memᴰ·cases-cons h) [ inl e ↦ omega (arith, ap f e) | inr m ↦ omega (arith, least-bound (z ∷ l) x m) ]
 
   pub least-some : (x : A) (l : List A) → (y : A) × List·Memᴰ y (x ∷ l) × (f y ≡ least (map f (x ∷ l)))
   unfolding least
   least-some x [] = (x, List·Memᴰ·head refl, refl)
-  least-some x (z ∷ l) = go (least-some z l) (decLe (f x) (least (map f (z ∷ l))))
-    where
-      go : (y : A) × List·Memᴰ y (z ∷ l) × (f y ≡ least (map f (z ∷ l))) → Dec (f x ≤ least (map f (z ∷ l)))
-          → (y : A) × List·Memᴰ y (x ∷ z ∷ l) × (f y ≡ min (f x) (least (map f (z ∷ l))))
-      go r (yes h) = (x, List·Memᴰ·head refl, omega arith)
-      go r (no h) = (r .0, List·Memᴰ·tail (r .1), omega (arith, r .2))
+  least-some x (z ∷ l) = let r = least-some z l in elim (decLe (f x) (least (map f (z ∷ l)))) [
+    | yes h ↦ (x, List·Memᴰ·head refl, omega arith)
+    | no h ↦ (r .0, List·Memᴰ·tail (r .1), omega (arith, r .2))
+  ]
 
   pub least-is : (l : List A) (x : A) → List·Memᴰ x l → ((y : A) → List·Memᴰ y l → f x ≤ f y) → least (map f l) ≡ f x
   least-is [] x m h = absurd (List·Memᴰ·not-nil m)

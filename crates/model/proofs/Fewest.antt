@@ -19,16 +19,14 @@ module _ (m : ℕ) (opens callouts : List ℕ) where
   -- none only if there is no plan at all
   pub fewest-empty : fewestPlans m opens callouts ≡ [] → plans m opens ≡ []
   unfolding fewestPlans fewest test
-  fewest-empty e = go (plans m opens) refl
-    where
-      go : (l : List (List ℕ)) → plans m opens ≡ l → plans m opens ≡ []
-      go [] q = q
-      go (p ∷ l) q =
-          let s = least-some (calloutsOf callouts) p l in
-          let is : T (test (s .0)) =
-          subst (λ k. T (eqb (calloutsOf callouts (s .0)) k)) (s .2
-          ∙ ap (λ k. least (map (calloutsOf callouts) k)) (sym q)) (eqb-refl (calloutsOf callouts (s .0))) in
-          absurd (List·Memᴰ·not-nil (subst (λ k. List·Memᴰ (s .0) k) e (keep-into test (plans m opens) (subst (λ k. List·Memᴰ (s .0) k) (sym q) (s .1)) is)))
+  fewest-empty e = elim (plans m opens) as (λ l. plans m opens ≡ l → plans m opens ≡ []) [
+    | [] ↦ λ q. q
+    | p ∷ l ↦ λ q.
+        let s = least-some (calloutsOf callouts) p l in
+        let is : T (test (s .0)) = rw (q, ← s .2) (eqb-refl (calloutsOf callouts (s .0))) in
+        let member : List·Memᴰ (s .0) (plans m opens) = rw q (s .1) in
+        absurd (List·Memᴰ·not-nil (rw e at (keep-into test (plans m opens) member is)))
+  ] refl
 
   pub fewest-le : (q : List ℕ) → List·Memᴰ q (plans m opens) → fewest m opens callouts ≤ calloutsOf callouts q
   unfolding fewest

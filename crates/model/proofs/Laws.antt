@@ -11,7 +11,7 @@ use lib.ListN.{length, getD}
 use Rattle.words.specs.Word.{bit}
 use Rattle.words.proofs.Bits.{bit-lt}
 use Rattle.words.proofs.Sums.{sum-const, sum-le}
-use Rattle.model.specs.Lists.{keep, same, before, Before}
+use Rattle.model.specs.Lists.{keep, same, before, Before, Chain}
 use Rattle.model.specs.Rota.{tableCode}
 use Rattle.model.specs.Plans.{plans, isPlan, plansAfter, IsPlan}
 use Rattle.model.specs.Fewest.{calloutsOf, fewest, fewestPlans}
@@ -31,11 +31,12 @@ IsLeast opens p = (q : List ℕ) → IsPlan opens q → (q ≡ p) ⊎ Before p q
 pub callouts-le : (callouts p : List ℕ) → calloutsOf callouts p ≤ length callouts
 unfolding calloutsOf
 callouts-le callouts p =
-    omega (
-      arith,
-      sum-le (λ i. bit (getD callouts i 0) (getD p i 0)) (λ i. 1) (length callouts) (λ i h. omega (arith, bit-lt (getD callouts i 0) (getD p i 0))),
-      sum-const 1 (length callouts),
-    )
+    let least = sum-le (λ i. bit (getD callouts i 0) (getD p i 0)) (λ i. 1) (length callouts) (λ i h. omega (arith, bit-lt (getD callouts i 0) (getD p i 0))) in
+    omega (arith, sum-const 1 (length callouts))
+
+pub after-rise : (m : ℕ) (opens g : List ℕ) → Chain Before (plansAfter m opens g)
+unfolding plansAfter
+after-rise m opens g = chain-keep Before (before g) (plans m opens) (plans-rise m opens)
 
 pub empty-list : {A : Type 0} (l : List A) → ((x : A) → List·Memᴰ x l → ⊥) → l ≡ []
 empty-list [] f = refl
@@ -53,24 +54,18 @@ module _ (m : ℕ) (opens : List ℕ) (few : length opens ≤ 64) (range : (i : 
   pub no-plans : ((p : List ℕ) → IsPlan opens p → ⊥) → plans m opens ≡ []
   no-plans f = empty-list (plans m opens) (λ p h. f p (from p h))
 
-  pub count-none : ((p : List ℕ) → IsPlan opens p → ⊥) → count m opens ≡ 0
-  unfolding count
-  count-none f = ap length (no-plans f)
-
-  pub count-some : (p : List ℕ) → IsPlan opens p → 0 < count m opens
-  unfolding count
-  count-some p P = omega (arith, place-of [] (plans m opens) (into p P) .1)
-
   -- ---- whether a record is a plan
 
   pub is-plan : (p : List ℕ) → IsPlan opens p → isPlan m opens p ≡ true
   unfolding isPlan
   is-plan p P = is-true (isPlan m opens p) (any-into (same p) (plans m opens) (into p P) (subst T (sym (same-refl p)) tt))
 
-  pub is-no-plan : (p : List ℕ) → (IsPlan opens p → ⊥) → isPlan m opens p ≡ false
+  pub is-so : (p : List ℕ) → isPlan m opens p ≡ true → IsPlan opens p
   unfolding isPlan
-  is-no-plan p f =
-      is-false (isPlan m opens p) (λ t. let r = any-from (same p) (plans m opens) t in f (from p (subst (λ q. List·Memᴰ q (plans m opens)) (sym (same-eq p (r .0) (is-true (same p (r .0)) (r .2)))) (r .1))))
+  is-so p e = let r = any-from (same p) (plans m opens) (rw e tt) in from p (rw (same-eq p (r .0) (is-true _ (r .2))) (r .1))
+
+  pub is-no-plan : (p : List ℕ) → (IsPlan opens p → ⊥) → isPlan m opens p ≡ false
+  is-no-plan p f = is-false (isPlan m opens p) (λ t. f (is-so p (is-true (isPlan m opens p) t)))
 
   -- ---- first
 
@@ -84,9 +79,13 @@ module _ (m : ℕ) (opens : List ℕ) (few : length opens ≤ 64) (range : (i : 
 
   -- ---- next
 
-  after-from : (g p : List ℕ) → List·Memᴰ p (plansAfter m opens g) → IsPlan opens p × Before g p
+  pub after-from : (g p : List ℕ) → List·Memᴰ p (plansAfter m opens g) → IsPlan opens p × Before g p
   unfolding plansAfter
   after-from g p h = let r = keep-from (before g) (plans m opens) h in (from p (r .0), r .1)
+
+  pub after-into : (g p : List ℕ) → IsPlan opens p → Before g p → List·Memᴰ p (plansAfter m opens g)
+  unfolding plansAfter
+  after-into g p P b = keep-into (before g) (plans m opens) (into p P) b
 
   next-by : (g : List ℕ) (b : Bool) → isPlan m opens g ≡ b → nextFrom m opens g ≡ cond b (nextOf (plansAfter m opens g)) (refused 8)
   unfolding nextFrom
@@ -104,11 +103,10 @@ module _ (m : ℕ) (opens : List ℕ) (few : length opens ≤ 64) (range : (i : 
 
   pub next-of : (g p : List ℕ) → IsPlan opens p → Before g p → ((q : List ℕ) → IsPlan opens q → Before g q → (q ≡ p) ⊎ Before p q)
       → nextOf (plansAfter m opens g) ≡ given p 0
-  unfolding nextOf plansAfter
+  unfolding nextOf
   next-of g p P b f =
       ap nextOf
-      (least-is-head (plansAfter m opens g) p (chain-keep Before (before g) (plans m opens) (plans-rise m opens)) (keep-into (before g) (plans m opens) (into p P) b)
-      (λ q h. let r = after-from g q h in f q (r .0) (r .1)) .1)
+      (least-is-head (plansAfter m opens g) p (after-rise m opens g) (after-into g p P b) (λ q h. let r = after-from g q h in f q (r .0) (r .1)) .1)
 
   -- ---- fewest callouts
 

@@ -41,11 +41,10 @@ module _ (none : PlanAnswer) (l : List (List ℕ)) (k : ℕ) where
 
   -- with no plan left the call is refused
   call-refused : ((none .code ≡ 0) → ⊥) → length l ≤ k → (callAnswer none l k .code ≡ 0) → ⊥
-  call-refused d h = go (ℕ-discrete (length l) 0)
-    where
-      go : Dec (length l ≡ 0) → (callAnswer none l k .code ≡ 0) → ⊥
-      go (yes z) c = d (sym (ap (λ a. a .code) (call-none z)) ∙ c)
-      go (no z) c = let e = sym (ap (λ a. a .code) (call-end h (omega arith))) ∙ c in omega arith
+  call-refused d h c = elim (ℕ-discrete (length l) 0) [
+    | yes z ↦ d (rw (call-none z) at c)
+    | no z ↦ let e : _≡_ {A = ℕ} 10 0 = rw (call-end h (omega arith)) at c in omega arith
+  ]
 
 call-fresh : (none : PlanAnswer) (l : List (List ℕ)) (k : ℕ) → min k (length l) ≡ 0 → firstOr none l ≡ callAnswer none l k
 unfolding firstOr
@@ -55,13 +54,12 @@ call-fresh none (p ∷ l) (suc k) e = absurd (omega arith)
 
 call-started : (none : PlanAnswer) (l : List (List ℕ)) (k i : ℕ) → min k (length l) ≡ suc i → nextOf (drop (suc i) l) ≡ callAnswer none l k
 unfolding nextOf
-call-started none l k i e = go (decLt k (length l))
-  where
-    go : Dec (k < length l) → nextOf (drop (suc i) l) ≡ callAnswer none l k
-    go (yes h) =
-        let q : suc i ≡ k = omega arith in
-        ap nextOf (drop-cons l (suc i) [] (omega arith)) ∙ ap (λ j. given (getD l j []) 0) q ∙ sym (call-plan none l k h)
-    go (no h) = ap nextOf (drop-of-length-le l {i = suc i} (omega arith)) ∙ sym (call-end none l k (omega arith) (omega arith))
+call-started none l k i e = elim (decLt k (length l)) [
+  | yes h ↦
+      let q : suc i ≡ k = omega arith in
+      ap nextOf (drop-cons l (suc i) [] (omega arith)) ∙ ap (λ j. given (getD l j []) 0) q ∙ sym (call-plan none l k h)
+  | no h ↦ ap nextOf (drop-of-length-le l {i = suc i} (omega arith)) ∙ sym (call-end none l k (omega arith) (omega arith))
+]
 
 -- ---- one call
 
@@ -86,15 +84,12 @@ module _ (own : Lister → PlanAnswer) (none : PlanAnswer) (l : List (List ℕ))
 
   after-at : (k : ℕ) → stored (stateAt k) (own (stateAt k)) ≡ stateAt (suc k)
   unfolding holding stored
-  after-at k = ap (stored (stateAt k)) (answer-at k) ∙ go (decLt k (length l))
-    where
-      go : Dec (k < length l) → stored (stateAt k) (callAnswer none l k) ≡ stateAt (suc k)
-      go (yes h) =
-          let s : suc k ≡ min (suc k) (length l) = omega arith in
-          ap (stored (stateAt k)) (call-plan none l k h) ∙ ap (holding l e) s
-      go (no h) =
-          let s : min k (length l) ≡ min (suc k) (length l) = omega arith in
-          refused-keeps (stateAt k) (callAnswer none l k) (call-refused none l k (L .refuses) (omega arith)) ∙ ap (holding l e) s
+  after-at k = ap (stored (stateAt k)) (answer-at k) ∙ elim (decLt k (length l)) [
+    | yes h ↦ let s : suc k ≡ min (suc k) (length l) = omega arith in ap (stored (stateAt k)) (call-plan none l k h) ∙ ap (holding l e) s
+    | no h ↦
+        let s : min k (length l) ≡ min (suc k) (length l) = omega arith in
+        refused-keeps (stateAt k) (callAnswer none l k) (call-refused none l k (L .refuses) (omega arith)) ∙ ap (holding l e) s
+  ]
 
   -- ---- a list of calls, after k own ones
 
@@ -131,30 +126,28 @@ module _ (own : Lister → PlanAnswer) (none : PlanAnswer) (l : List (List ℕ))
     gives-none h c = call-refused none l k (L .refuses) h (sym (ap (λ a. a .code) (ap own q ∙ answer-at k)) ∙ c)
 
   listing-is : (p : List (List ℕ)) (k : ℕ) (s : Lister) → s ≡ stateAt k → IsListing own s p → p ≡ drop k l
-  listing-is [] k s q r = go (decLt k (length l))
-    where
-      go : Dec (k < length l) → [] ≡ drop k l
-      go (yes h) = absurd (r (ap (λ a. a .code) (gives-plan k s q h)))
-      go (no h) = sym (drop-of-length-le l {i = k} (omega arith))
-  listing-is (p ∷ rest) k s q r = go (listing-is rest (suc k) (stored s (own s)) (after-here k s q) (r .1)) (decLt k (length l))
-    where
-      go : rest ≡ drop (suc k) l → Dec (k < length l) → p ∷ rest ≡ drop k l
-      go e (yes h) = ap₂ _∷_ (ap (λ a. a .plan .slots) (sym (r .0) ∙ gives-plan k s q h)) e ∙ sym (drop-cons l k [] h)
-      go e (no h) = absurd (gives-none k s q (omega arith) (ap (λ a. a .code) (r .0)))
+  listing-is [] k s q r = elim (decLt k (length l)) [
+    | yes h ↦ absurd (r (ap (λ a. a .code) (gives-plan k s q h)))
+    | no h ↦ sym (drop-of-length-le l {i = k} (omega arith))
+  ]
+  listing-is (p ∷ rest) k s q r = elim (decLt k (length l)) [
+    | yes h ↦
+        ap₂ _∷_ (ap (λ a. a .plan .slots) (sym (r .0) ∙ gives-plan k s q h)) (listing-is rest (suc k) (stored s (own s)) (after-here k s q) (r .1))
+        ∙ sym (drop-cons l k [] h)
+    | no h ↦ absurd (gives-none k s q (omega arith) (ap (λ a. a .code) (r .0)))
+  ]
 
   is-listing : (p : List (List ℕ)) (k : ℕ) (s : Lister) → s ≡ stateAt k → p ≡ drop k l → IsListing own s p
-  is-listing [] k s q e = gives-none k s q (go (decLt k (length l)))
-    where
-      go : Dec (k < length l) → length l ≤ k
-      go (yes h) = absurd (nil≢cons (e ∙ drop-cons l k [] h))
-      go (no h) = omega arith
-  is-listing (p ∷ rest) k s q e = go (is-listing rest (suc k) (stored s (own s)) (after-here k s q)) (decLt k (length l))
-    where
-      go : (rest ≡ drop (suc k) l → IsListing own (stored s (own s)) rest) → Dec (k < length l) → IsListing own s (p ∷ rest)
-      go ih (yes h) =
-          let c = e ∙ drop-cons l k [] h in
-          (gives-plan k s q h ∙ ap (λ x. given x 0) (sym (head-eq-of-cons-eq c)), ih (tail-eq-of-cons-eq c))
-      go ih (no h) = absurd (nil≢cons (sym (e ∙ drop-of-length-le l {i = k} (omega arith))))
+  is-listing [] k s q e =
+      gives-none k s q (elim (decLt k (length l)) [ yes h ↦ absurd (nil≢cons (e ∙ drop-cons l k [] h)) | no h ↦ omega arith ])
+  is-listing (p ∷ rest) k s q e = elim (decLt k (length l)) [
+    | yes h ↦
+        let c = e ∙ drop-cons l k [] h in (
+          gives-plan k s q h ∙ ap (λ x. given x 0) (sym (head-eq-of-cons-eq c)),
+          is-listing rest (suc k) (stored s (own s)) (after-here k s q) (tail-eq-of-cons-eq c),
+        )
+    | no h ↦ absurd (nil≢cons (sym (e ∙ drop-of-length-le l {i = k} (omega arith))))
+  ]
 
 -- ---- the theorem
 

@@ -75,54 +75,39 @@ module _ {A : Type 0} (f : A → Bool) where
   pub keep-from : {x : A} (l : List A) → List·Memᴰ x (keep f l) → List·Memᴰ x l × T (f x)
   unfolding keep
   keep-from [] h = absurd (List·Memᴰ·not-nil h)
-  keep-from {x} (y ∷ l) h = go (f y) refl (keep-from l) h
-    where
-      go : (b : Bool) → f y ≡ b → (List·Memᴰ x (keep f l) → List·Memᴰ x l × T (f x)) → List·Memᴰ x (cond b (y ∷ keep f l) (keep f l))
-          → List·Memᴰ x (y ∷ l) × T (f x)
-      go true e ih h =
-          ⊎-elim (λ q. (List·Memᴰ·head q, subst T (sym (ap f q ∙ e)) tt)) (λ m. (List·Memᴰ·tail (ih m .0), ih m .1)) (List·Memᴰ·cases-cons h)
-      go false e ih h = (List·Memᴰ·tail (ih h .0), ih h .1)
+  keep-from {x} (y ∷ l) h = elim (f y) as (λ b. f y ≡ b → List·Memᴰ x (cond b (y ∷ keep f l) (keep f l)) → List·Memᴰ x (y ∷ l) × T (f x)) [
+    | true ↦ λ e h. elim (List·Memᴰ·cases-cons h) [ inl q ↦ (List·Memᴰ·head q, rw (q, e) tt) | inr m ↦ let r = keep-from l m in (List·Memᴰ·tail (r .0), r .1) ]
+    | false ↦ λ e h. let r = keep-from l h in (List·Memᴰ·tail (r .0), r .1)
+  ] refl h
 
   pub keep-into : {x : A} (l : List A) → List·Memᴰ x l → T (f x) → List·Memᴰ x (keep f l)
   unfolding keep
   keep-into [] h t = absurd (List·Memᴰ·not-nil h)
-  keep-into {x} (y ∷ l) h t = go (f y) refl (λ m. keep-into l m t) (List·Memᴰ·cases-cons h)
-    where
-      go : (b : Bool) → f y ≡ b → (List·Memᴰ x l → List·Memᴰ x (keep f l)) → (x ≡ y) ⊎ List·Memᴰ x l → List·Memᴰ x (cond b (y ∷ keep f l) (keep f l))
-      go true e ih (inl q) = List·Memᴰ·head q
-      go true e ih (inr m) = List·Memᴰ·tail (ih m)
-      go false e ih (inl q) = absurd (subst T (ap f q ∙ e) t)
-      go false e ih (inr m) = ih m
+  keep-into {x} (y ∷ l) h t = elim (List·Memᴰ·cases-cons h) [
+    | inl q ↦ rw (is-true (f y) (rw q at t)) (List·Memᴰ·head q)
+    | inr m ↦ elim (f y) as (λ b. List·Memᴰ x (cond b (y ∷ keep f l) (keep f l))) [ true ↦ List·Memᴰ·tail (keep-into l m t) | false ↦ keep-into l m t ]
+  ]
 
   pub keep-all : (l : List A) → ((x : A) → List·Memᴰ x l → f x ≡ true) → keep f l ≡ l
   unfolding keep
   keep-all [] h = refl
-  keep-all (x ∷ l) h =
-      ap (λ b. cond b (x ∷ keep f l) (keep f l)) (h x (List·Memᴰ·head refl)) ∙ ap (x ∷_) (keep-all l (λ y m. h y (List·Memᴰ·tail m)))
-
-  pub keep-le : (l : List A) → length (keep f l) ≤ length l
-  unfolding keep
-  keep-le [] = omega arith
-  keep-le (x ∷ l) = go (f x) (keep-le l)
-    where
-      go : (b : Bool) → length (keep f l) ≤ length l → length (cond b (x ∷ keep f l) (keep f l)) ≤ suc (length l)
-      go true h = omega arith
-      go false h = omega arith
+  keep-all (x ∷ l) h = rw (h x (List·Memᴰ·head refl)) (ap (x ∷_) (keep-all l (λ y m. h y (List·Memᴰ·tail m))))
 
   pub any-into : {x : A} (l : List A) → List·Memᴰ x l → T (f x) → T (any f l)
   unfolding any
   any-into [] h t = absurd (List·Memᴰ·not-nil h)
-  any-into (y ∷ l) h t =
-      ⊎-elim (λ e. or-left (f y) (any f l) (subst (λ z. T (f z)) e t)) (λ k. or-right (f y) (any f l) (any-into l k t)) (List·Memᴰ·cases-cons h)
+  any-into (y ∷ l) h t = elim (List·Memᴰ·cases-cons h) [
+    | inl e ↦ or-left (f y) (any f l) (rw e at t)
+    | inr k ↦ or-right (f y) (any f l) (any-into l k t)
+  ]
 
   pub any-from : (l : List A) → T (any f l) → (x : A) × List·Memᴰ x l × T (f x)
   unfolding any
   any-from [] t = absurd t
-  any-from (y ∷ l) t =
-      ⊎-elim {C = (x : A) × List·Memᴰ x (y ∷ l) × T (f x)}
-      (λ s. (y, List·Memᴰ·head refl, s))
-      (λ s. let r = any-from l s in (r .0, List·Memᴰ·tail (r .1), r .2))
-      (or-cases (f y) (any f l) t)
+  any-from (y ∷ l) t = elim (or-cases (f y) (any f l) t) [
+    | inl s ↦ (y, List·Memᴰ·head refl, s)
+    | inr s ↦ let r = any-from l s in (r .0, List·Memᴰ·tail (r .1), r .2)
+  ]
 
   pub any-none : (d : A) (l : List A) → any f l ≡ false → (i : ℕ) → i < length l → f (getD l i d) ≡ false
   unfolding any
@@ -134,17 +119,9 @@ module _ {A : Type 0} (f : A → Bool) where
   pub any-more : (d : A) (l : List A) (i : ℕ) → i < length l → any f (take (suc i) l) ≡ (any f (take i l) || f (getD l i d))
   unfolding any
   any-more d [] i h = absurd (omega arith)
-  any-more d (x ∷ l) zero h = go (f x)
-    where
-      go : (b : Bool) → (b || false) ≡ b
-      go true = refl
-      go false = refl
-  any-more d (x ∷ l) (suc i) h = go (f x) (any-more d l i (omega arith))
-    where
-      go : (b : Bool) → any f (take (suc i) l) ≡ (any f (take i l) || f (getD l i d))
-          → (b || any f (take (suc i) l)) ≡ ((b || any f (take i l)) || f (getD l i d))
-      go true e = refl
-      go false e = e
+  any-more d (x ∷ l) zero h = elim (f x) as (λ b. (b || false) ≡ b) [ true ↦ refl | false ↦ refl ]
+  any-more d (x ∷ l) (suc i) h =
+      elim (f x) as (λ b. (b || any f (take (suc i) l)) ≡ ((b || any f (take i l)) || f (getD l i d))) [ true ↦ refl | false ↦ any-more d l i (omega arith) ]
 
 -- ---- one number taken out
 
@@ -164,20 +141,18 @@ module _ {A B : Type 0} (f : A → List B) where
   pub flatMap-from : {y : B} (l : List A) → List·Memᴰ y (flatMap f l) → (x : A) × List·Memᴰ x l × List·Memᴰ y (f x)
   unfolding flatMap
   flatMap-from [] h = absurd (List·Memᴰ·not-nil h)
-  flatMap-from {y} (a ∷ l) h =
-      ⊎-elim {C = (x : A) × List·Memᴰ x (a ∷ l) × List·Memᴰ y (f x)}
-      (λ m. (a, List·Memᴰ·head refl, m))
-      (λ m. let r = flatMap-from l m in (r .0, List·Memᴰ·tail (r .1), r .2))
-      (List·Memᴰ·append-cases (f a) h)
+  flatMap-from {y} (a ∷ l) h = elim (List·Memᴰ·append-cases (f a) h) [
+    | inl m ↦ (a, List·Memᴰ·head refl, m)
+    | inr m ↦ let r = flatMap-from l m in (r .0, List·Memᴰ·tail (r .1), r .2)
+  ]
 
   pub flatMap-into : {y : B} {x : A} (l : List A) → List·Memᴰ x l → List·Memᴰ y (f x) → List·Memᴰ y (flatMap f l)
   unfolding flatMap
   flatMap-into [] h m = absurd (List·Memᴰ·not-nil h)
-  flatMap-into {y} {x} (a ∷ l) h m =
-      ⊎-elim {C = List·Memᴰ y (f a ++ flatMap f l)}
-      (λ q. Memᴰ·append-left (flatMap f l) (subst (λ z. List·Memᴰ y (f z)) q m))
-      (λ k. Memᴰ·append-right (f a) (flatMap-into l k m))
-      (List·Memᴰ·cases-cons h)
+  flatMap-into {y} {x} (a ∷ l) h m = elim (List·Memᴰ·cases-cons h) [
+    | inl q ↦ Memᴰ·append-left (flatMap f l) (rw q at m)
+    | inr k ↦ Memᴰ·append-right (f a) (flatMap-into l k m)
+  ]
 
 -- ---- by index
 
@@ -188,8 +163,7 @@ mem-at d (x ∷ l) (suc i) h = List·Memᴰ·tail (mem-at d l i (omega arith))
 
 pub place-of : {A : Type 0} {x : A} (d : A) (l : List A) → List·Memᴰ x l → (i : ℕ) × (i < length l) × (getD l i d ≡ x)
 place-of d [] h = absurd (List·Memᴰ·not-nil h)
-place-of {A} {x} d (y ∷ l) h =
-    ⊎-elim {C = (i : ℕ) × (i < length (y ∷ l)) × (getD (y ∷ l) i d ≡ x)}
-    (λ e. (0, omega arith, sym e))
-    (λ m. let r = place-of d l m in (suc (r .0), omega arith, r .2))
-    (List·Memᴰ·cases-cons h)
+place-of {A} {x} d (y ∷ l) h = elim (List·Memᴰ·cases-cons h) [
+  | inl e ↦ (0, omega arith, sym e)
+  | inr m ↦ let r = place-of d l m in (suc (r .0), omega arith, r .2)
+]

@@ -30,23 +30,20 @@ module _ (x y : ℕ) (p q : List ℕ) where
 
   before-cases : Before (x ∷ p) (y ∷ q) → (x < y) ⊎ ((x ≡ y) × Before p q)
   unfolding before
-  before-cases h =
-      ⊎-elim (λ a. inl (ltb→lt x y a))
-      (λ b. inr (eqb→eq x y (both-left (eqb x y) (before p q) b), both-right (eqb x y) (before p q) b))
-      (or-cases (ltb x y) (eqb x y && before p q) h)
+  before-cases h = elim (or-cases (ltb x y) (eqb x y && before p q) h) [
+    | inl a ↦ inl (ltb→lt x y a)
+    | inr b ↦ inr (eqb→eq x y (both-left (eqb x y) (before p q) b), both-right (eqb x y) (before p q) b)
+  ]
 
 pub before-asym : (p q : List ℕ) → Before p q → Before q p → ⊥
 unfolding before
 before-asym [] [] h k = h
 before-asym [] (y ∷ q) h k = k
 before-asym (x ∷ p) [] h k = h
-before-asym (x ∷ p) (y ∷ q) h k = go (before-asym p q) (before-cases x y p q h) (before-cases y x q p k)
-  where
-    go : (Before p q → Before q p → ⊥) → (x < y) ⊎ ((x ≡ y) × Before p q) → (y < x) ⊎ ((y ≡ x) × Before q p) → ⊥
-    go ih (inl a) (inl b) = omega arith
-    go ih (inl a) (inr b) = omega (arith, b .0)
-    go ih (inr a) (inl b) = omega (arith, a .0)
-    go ih (inr a) (inr b) = ih (a .1) (b .1)
+before-asym (x ∷ p) (y ∷ q) h k = elim (before-cases x y p q h) [
+  | inl a ↦ elim (before-cases y x q p k) [ inl b ↦ omega arith | inr b ↦ omega (arith, b .0) ]
+  | inr a ↦ elim (before-cases y x q p k) [ inl b ↦ omega (arith, a .0) | inr b ↦ before-asym p q (a .1) (b .1) ]
+]
 
 pub before-irrefl : (p : List ℕ) → Before p p → ⊥
 before-irrefl p h = before-asym p p h h
@@ -56,23 +53,26 @@ pub before-trichotomy : (p q : List ℕ) → length p ≡ length q → (p ≡ q)
 before-trichotomy [] [] e = inl refl
 before-trichotomy [] (y ∷ q) e = absurd (omega arith)
 before-trichotomy (x ∷ p) [] e = absurd (omega arith)
-before-trichotomy (x ∷ p) (y ∷ q) e = go (decLt x y) (decLt y x) (before-trichotomy p q (suc-inj e))
-  where
-    go : Dec (x < y) → Dec (y < x) → (p ≡ q) ⊎ (Before p q ⊎ Before q p)
-        → (_≡_ {A = List ℕ} (x ∷ p) (y ∷ q)) ⊎ (Before (x ∷ p) (y ∷ q) ⊎ Before (y ∷ q) (x ∷ p))
-    go (yes h) d r = inr (inl (before-head x y p q h))
-    go (no h) (yes k) r = inr (inr (before-head y x q p k))
-    go (no h) (no k) (inl r) = let z : x ≡ y = omega arith in inl (ap₂ _∷_ z r)
-    go (no h) (no k) (inr (inl r)) = inr (inl (before-tail x y p q (omega arith) r))
-    go (no h) (no k) (inr (inr r)) = inr (inr (before-tail y x q p (omega arith) r))
+before-trichotomy (x ∷ p) (y ∷ q) e = elim (decLt x y) [
+  | yes h ↦ inr (inl (before-head x y p q h))
+  | no h ↦ elim (decLt y x) [
+    | yes k ↦ inr (inr (before-head y x q p k))
+    | no k ↦ let z : x ≡ y = omega arith in elim (before-trichotomy p q (suc-inj e)) [
+      | inl r ↦ inl (ap₂ _∷_ z r)
+      | inr r ↦ inr (elim r [ inl b ↦ inl (before-tail x y p q z b) | inr b ↦ inr (before-tail y x q p (sym z) b) ])
+    ]
+  ]
+]
 
 pub before-append : (p q z : List ℕ) → length p ≡ length q → Before p q → Before (p ++ z) (q ++ z)
 unfolding before
 before-append [] [] z e h = absurd h
 before-append [] (y ∷ q) z e h = absurd (omega arith)
 before-append (x ∷ p) [] z e h = absurd h
-before-append (x ∷ p) (y ∷ q) z e h =
-    ⊎-elim (λ a. before-head x y (p ++ z) (q ++ z) a) (λ b. before-tail x y (p ++ z) (q ++ z) (b .0) (before-append p q z (suc-inj e) (b .1))) (before-cases x y p q h)
+before-append (x ∷ p) (y ∷ q) z e h = elim (before-cases x y p q h) [
+  | inl a ↦ before-head x y (p ++ z) (q ++ z) a
+  | inr b ↦ before-tail x y (p ++ z) (q ++ z) (b .0) (before-append p q z (suc-inj e) (b .1))
+]
 
 -- by index: the first place at which they differ
 pub before-by : (p q : List ℕ) (i : ℕ) → i < length p → i < length q → ((k : ℕ) → k < i → getD p k 0 ≡ getD q k 0) → getD p i 0 < getD q i 0 → Before p q
@@ -88,16 +88,14 @@ unfolding before
 before-place [] [] e h = absurd h
 before-place [] (y ∷ q) e h = absurd (omega arith)
 before-place (x ∷ p) [] e h = absurd h
-before-place (x ∷ p) (y ∷ q) e h = go (before-place p q (suc-inj e)) (before-cases x y p q h)
+before-place (x ∷ p) (y ∷ q) e h = elim (before-cases x y p q h) [
+  | inl a ↦ (0, omega arith, λ k g. absurd (omega arith), a)
+  | inr b ↦ let r = before-place p q (suc-inj e) (b .1) in (suc (r .0), omega arith, agree (r .0) (b .0) (r .2), r .3)
+]
   where
     agree : (i : ℕ) → x ≡ y → ((k : ℕ) → k < i → getD p k 0 ≡ getD q k 0) → (k : ℕ) → k < suc i → getD (x ∷ p) k 0 ≡ getD (y ∷ q) k 0
     agree i e f zero g = e
     agree i e f (suc k) g = f k (omega arith)
-
-    go : (Before p q → (i : ℕ) × (i < length p) × ((k : ℕ) → k < i → getD p k 0 ≡ getD q k 0) × (getD p i 0 < getD q i 0)) → (x < y) ⊎ ((x ≡ y) × Before p q)
-        → (i : ℕ) × (i < length (x ∷ p)) × ((k : ℕ) → k < i → getD (x ∷ p) k 0 ≡ getD (y ∷ q) k 0) × (getD (x ∷ p) i 0 < getD (y ∷ q) i 0)
-    go ih (inl a) = (0, omega arith, λ k g. absurd (omega arith), a)
-    go ih (inr b) = let r = ih (b .1) in (suc (r .0), omega arith, agree (r .0) (b .0) (r .2), r .3)
 
 -- ---- a list in which each member stands in a relation to all later ones
 
@@ -112,11 +110,10 @@ module _ {A : Type 0} (R : A → A → Type 0) where
   pub chain-keep : (f : A → Bool) (l : List A) → Chain R l → Chain R (keep f l)
   unfolding keep
   chain-keep f [] c = tt
-  chain-keep f (x ∷ l) c = go (f x) (chain-keep f l (c .1))
-    where
-      go : (b : Bool) → Chain R (keep f l) → Chain R (cond b (x ∷ keep f l) (keep f l))
-      go true d = (λ y h. c .0 y (keep-from f l h .0), d)
-      go false d = d
+  chain-keep f (x ∷ l) c = elim (f x) as (λ b. Chain R (cond b (x ∷ keep f l) (keep f l))) [
+    | true ↦ (λ y h. c .0 y (keep-from f l h .0), chain-keep f l (c .1))
+    | false ↦ chain-keep f l (c .1)
+  ]
 
   pub chain-at : (d : A) (l : List A) → Chain R l → (i k : ℕ) → i < k → k < length l → R (getD l i d) (getD l k d)
   chain-at d [] c i k h g = absurd (omega arith)
@@ -125,7 +122,7 @@ module _ {A : Type 0} (R : A → A → Type 0) where
   chain-at d (x ∷ l) c (suc i) zero h g = absurd (omega arith)
   chain-at d (x ∷ l) c (suc i) (suc k) h g = chain-at d l (c .1) i k (omega arith) (omega arith)
 
-chain-map : {A B : Type 0} (R : A → A → Type 0) (S : B → B → Type 0) (f : A → B) (l : List A)
+pub chain-map : {A B : Type 0} (R : A → A → Type 0) (S : B → B → Type 0) (f : A → B) (l : List A)
     → ((x y : A) → List·Memᴰ x l → List·Memᴰ y l → R x y → S (f x) (f y)) → Chain R l → Chain S (map f l)
 chain-map R S f [] g c = tt
 chain-map R S f (x ∷ l) g c = (
@@ -169,11 +166,6 @@ arrangements-rise (suc k) slots c =
     let u = Memᴰ·of-map (t ∷_) (arrangements k (remove t slots)) b in
     subst (λ x. Before x q) (r .2) (subst (Before (s ∷ r .0)) (u .2) (before-head s t (r .0) (u .0) h)))
 
--- the lists of one length padded in one way
-pub rising-map : (f : List ℕ → List ℕ) (l : List (List ℕ)) → ((p q : List ℕ) → List·Memᴰ p l → List·Memᴰ q l → Before p q → Before (f p) (f q)) → Rising l
-    → Rising (map f l)
-rising-map f l g r = chain-map Before Before f l g r
-
 -- two lists in rising order with the same members are the same
 pub rising-same : (l m : List (List ℕ)) → Rising l → Rising m → ((z : List ℕ) → List·Memᴰ z l → List·Memᴰ z m)
     → ((z : List ℕ) → List·Memᴰ z m → List·Memᴰ z l) → l ≡ m
@@ -181,14 +173,12 @@ rising-same [] [] r s f g = refl
 rising-same [] (y ∷ m) r s f g = absurd (List·Memᴰ·not-nil (g y (List·Memᴰ·head refl)))
 rising-same (x ∷ l) [] r s f g = absurd (List·Memᴰ·not-nil (f x (List·Memᴰ·head refl)))
 rising-same (x ∷ l) (y ∷ m) r s f g =
-    let e = heads (List·Memᴰ·cases-cons (f x (List·Memᴰ·head refl))) (List·Memᴰ·cases-cons (g y (List·Memᴰ·head refl))) in
+    let e : x ≡ y = elim (List·Memᴰ·cases-cons (f x (List·Memᴰ·head refl))) [
+      | inl e ↦ e
+      | inr h ↦ elim (List·Memᴰ·cases-cons (g y (List·Memᴰ·head refl))) [ inl e ↦ sym e | inr k ↦ absurd (before-asym x y (r .0 y k) (s .0 x h)) ]
+    ] in
     ap₂ _∷_ e (rising-same l m (r .1) (s .1) (rest x y l m (r .0) e f) (rest y x m l (s .0) (sym e) g))
   where
-    heads : (x ≡ y) ⊎ List·Memᴰ x m → (y ≡ x) ⊎ List·Memᴰ y l → x ≡ y
-    heads (inl e) k = e
-    heads (inr h) (inl e) = sym e
-    heads (inr h) (inr k) = absurd (before-asym x y (r .0 y k) (s .0 x h))
-
     -- the first left out of both
     rest : (x y : List ℕ) (l m : List (List ℕ)) → ((z : List ℕ) → List·Memᴰ z l → Before x z) → x ≡ y
         → ((z : List ℕ) → List·Memᴰ z (x ∷ l) → List·Memᴰ z (y ∷ m)) → (z : List ℕ) → List·Memᴰ z l → List·Memᴰ z m
@@ -199,42 +189,35 @@ rising-same (x ∷ l) (y ∷ m) r s f g =
 pub least-is-head : (l : List (List ℕ)) (x : List ℕ) → Rising l → List·Memᴰ x l → ((y : List ℕ) → List·Memᴰ y l → (y ≡ x) ⊎ Before x y)
     → (rest : List (List ℕ)) × (l ≡ x ∷ rest)
 least-is-head [] x r h f = absurd (List·Memᴰ·not-nil h)
-least-is-head (z ∷ l) x r h f = (l, ap (_∷ l) (go (f z (List·Memᴰ·head refl)) (List·Memᴰ·cases-cons h)))
-  where
-    go : (z ≡ x) ⊎ Before x z → (x ≡ z) ⊎ List·Memᴰ x l → z ≡ x
-    go (inl e) k = e
-    go (inr a) (inl e) = sym e
-    go (inr a) (inr k) = absurd (before-asym x z a (r .0 x k))
+least-is-head (z ∷ l) x r h f = (
+  l,
+  ap (_∷ l) (elim (f z (List·Memᴰ·head refl)) [
+    | inl e ↦ e
+    | inr a ↦ elim (List·Memᴰ·cases-cons h) [ inl e ↦ sym e | inr k ↦ absurd (before-asym x z a (r .0 x k)) ]
+  ]),
+)
 
 -- ---- what stands after member k, and how many before
-
-not-before : (p q : List ℕ) → (Before p q → ⊥) → before p q ≡ false
-not-before p q h = is-false (before p q) h
 
 pub after-member : (l : List (List ℕ)) → Rising l → (k : ℕ) → k < length l → keep (before (getD l k [])) l ≡ drop (suc k) l
 unfolding keep
 after-member [] r k h = absurd (omega arith)
 after-member (y ∷ l) r zero h =
-    ap (λ b. cond b (y ∷ keep (before y) l) (keep (before y) l)) (not-before y y (before-irrefl y))
-    ∙ keep-all (before y) l (λ z m. is-true (before y z) (r .0 z m))
+    rw (is-false (before y y) (before-irrefl y)) (keep-all (before y) l (λ z m. is-true (before y z) (r .0 z m)))
 after-member (y ∷ l) r (suc k) h =
     let x = getD l k [] in
-    ap (λ b. cond b (y ∷ keep (before x) l) (keep (before x) l))
-    (not-before x y (λ a. before-asym x y a (r .0 x (mem-at [] l k (omega arith)))))
-    ∙ after-member l (r .1) k (omega arith)
+    rw (is-false (before x y) (λ a. before-asym x y a (r .0 x (mem-at [] l k (omega arith))))) (after-member l (r .1) k (omega arith))
 
 none-kept : {A : Type 0} (f : A → Bool) (l : List A) → ((x : A) → List·Memᴰ x l → f x ≡ false) → keep f l ≡ []
 unfolding keep
 none-kept f [] h = refl
-none-kept f (x ∷ l) h = ap (λ b. cond b (x ∷ keep f l) (keep f l)) (h x (List·Memᴰ·head refl)) ∙ none-kept f l (λ y m. h y (List·Memᴰ·tail m))
+none-kept f (x ∷ l) h = rw (h x (List·Memᴰ·head refl)) (none-kept f l (λ y m. h y (List·Memᴰ·tail m)))
 
 pub members-before : (l : List (List ℕ)) → Rising l → (k : ℕ) → k < length l → length (keep (λ q. before q (getD l k [])) l) ≡ k
 unfolding keep
 members-before [] r k h = absurd (omega arith)
 members-before (y ∷ l) r zero h =
-    ap (λ b. length (cond b (y ∷ keep (λ q. before q y) l) (keep (λ q. before q y) l))) (not-before y y (before-irrefl y))
-    ∙ ap length (none-kept (λ q. before q y) l (λ z m. not-before z y (λ a. before-asym z y a (r .0 z m))))
+    rw (is-false (before y y) (before-irrefl y))
+    (ap length (none-kept (λ q. before q y) l (λ z m. is-false (before z y) (λ a. before-asym z y a (r .0 z m)))))
 members-before (y ∷ l) r (suc k) h =
-    let x = getD l k [] in
-    ap (λ b. length (cond b (y ∷ keep (λ q. before q x) l) (keep (λ q. before q x) l))) (is-true (before y x) (r .0 x (mem-at [] l k (omega arith))))
-    ∙ ap suc (members-before l (r .1) k (omega arith))
+    rw (is-true (before y (getD l k [])) (r .0 (getD l k []) (mem-at [] l k (omega arith)))) (ap suc (members-before l (r .1) k (omega arith)))

@@ -16,7 +16,7 @@ use Rattle.words.proofs.Sums.{below-into}
 use Rattle.model.specs.Lists.{remove, Before, Rising}
 use Rattle.model.specs.Plans.{arrangements, cellsOpen, matchings, padded, plans, plansAfter, IsPlan}
 use Rattle.model.proofs.Members.{both, both-left, both-right, keep-from, keep-into, remove-from, remove-into, flatMap-from, flatMap-into}
-use Rattle.model.proofs.Order.{chain-keep, chain-below, arrangements-rise, rising-map, before-append, after-member}
+use Rattle.model.proofs.Order.{chain-keep, chain-below, arrangements-rise, chain-map, before-append, after-member}
 
 -- ---- the arrangements: so long, of the slots at hand, none twice
 
@@ -121,7 +121,7 @@ module _ (m : ℕ) (opens : List ℕ) where
   pub plans-rise : Rising (plans m opens)
   unfolding plans matchings
   plans-rise =
-      rising-map padded (matchings opens (length opens) (below m))
+      chain-map Before Before padded (matchings opens (length opens) (below m))
       (λ p q a b h. padded-before p q (matching-length p a ∙ sym (matching-length q b)) h)
       (chain-keep Before (cellsOpen opens) (arrangements (length opens) (below m)) (arrangements-rise (length opens) (below m) (chain-below m)))
 
@@ -168,12 +168,12 @@ module _ (m : ℕ) (opens : List ℕ) where
         (cells-open-by opens q size cell)))
       where
         back : (q : List ℕ) → length q ≡ length opens → ((i : ℕ) → i < length opens → getD q i 0 ≡ getD p i 0) → padded q ≡ p
-        back q e at = ext-getD 0 (padded q) p (padded-length q (omega arith)
-            ∙ sym (h .sized)) (λ i l. go i (omega (arith, padded-length q (omega arith))) (decLt i (length opens)))
-          where
-            go : (i : ℕ) → i < 64 → Dec (i < length opens) → getD (padded q) i 0 ≡ getD p i 0
-            go i l (yes g) = padded-at q i (omega arith) ∙ at i g
-            go i l (no g) = padded-zero q i (omega arith) l ∙ sym (h .zeros i (omega arith) l)
+        back q e at = ext-getD 0 (padded q) p (padded-length q (omega arith) ∙ sym (h .sized)) (λ i l.
+            let fits : i < 64 = omega (arith, padded-length q (omega arith)) in
+            elim (decLt i (length opens)) [
+              | yes g ↦ padded-at q i (omega arith) ∙ at i g
+              | no g ↦ padded-zero q i (omega arith) fits ∙ sym (h .zeros i (omega arith) fits)
+            ])
 
     -- a list is among the plans exactly if it is a complete plan
     pub plans-are : (p : List ℕ) → List·Memᴰ p (plans m opens) ↔ IsPlan opens p

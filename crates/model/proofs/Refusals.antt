@@ -66,19 +66,11 @@ fleet-passed vehicles e = let b = neither (eqb vehicles 0) (ltb 10000 vehicles) 
 module _ (c code : ℕ) (d : c ≢ 0) (e : code ≡ c) where
   pub refused-answer : {A : Type 0} (refusal : ℕ → A) (answer : A) → refusal c ≡ unless refusal code answer
   unfolding unless
-  refused-answer {A} refusal answer = go c d e
-    where
-      go : (c : ℕ) → c ≢ 0 → code ≡ c → refusal c ≡ unless refusal code answer
-      go zero d e = absurd (d refl)
-      go (suc c) d e = ap (λ x. unless refusal x answer) (sym e)
+  refused-answer {A} refusal answer = rw e (elim c as (λ c. c ≢ 0 → refusal c ≡ unless refusal c answer) [ zero ↦ λ d. absurd (d refl) | suc k ↦ λ d. refl ] d)
 
   pub nothing-written : (values old : List ℕ) → old ≡ written code values old
   unfolding written
-  nothing-written values old = go c d e
-    where
-      go : (c : ℕ) → c ≢ 0 → code ≡ c → old ≡ written code values old
-      go zero d e = absurd (d refl)
-      go (suc c) d e = ap (λ x. written x values old) (sym e)
+  nothing-written values old = rw e (elim c as (λ c. c ≢ 0 → old ≡ written c values old) [ zero ↦ λ d. absurd (d refl) | suc k ↦ λ d. refl ] d)
 
 -- ---- an accepted one
 

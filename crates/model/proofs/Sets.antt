@@ -28,21 +28,15 @@ abbrev pub one : Bool → ℕ
 one b = cond b 1 0
 
 pub bit-is : (w j : ℕ) → bit w j ≡ one (has w j)
-bit-is w j = go (has w j) refl
-  where
-    go : (b : Bool) → has w j ≡ b → bit w j ≡ one b
-    go true e = bit-one w j e
-    go false e = bit-none w j e
+bit-is w j = elim (has w j) as (λ b. has w j ≡ b → bit w j ≡ one b) [ true ↦ bit-one w j | false ↦ bit-none w j ] refl
 
 -- as many as pass a test
 pub total-tests : {A : Type 0} (f : A → Bool) (g : A → ℕ) (l : List A) → ((x : A) → List·Memᴰ x l → g x ≡ one (f x)) → total g l ≡ length (keep f l)
 unfolding keep total
 total-tests f g [] h = refl
-total-tests {A} f g (x ∷ l) h = ap₂ _+_ (h x (List·Memᴰ·head refl)) (total-tests f g l (λ y m. h y (List·Memᴰ·tail m))) ∙ step (f x)
-  where
-    step : (b : Bool) → one b + length (keep f l) ≡ length (cond b (x ∷ keep f l) (keep f l))
-    step true = omega arith
-    step false = omega arith
+total-tests {A} f g (x ∷ l) h =
+    ap₂ _+_ (h x (List·Memᴰ·head refl)) (total-tests f g l (λ y m. h y (List·Memᴰ·tail m)))
+    ∙ elim (f x) as (λ b. one b + length (keep f l) ≡ length (cond b (x ∷ keep f l) (keep f l))) [ true ↦ omega arith | false ↦ omega arith ]
 
 -- ---- members
 
@@ -54,29 +48,23 @@ pub members-into : {x : ℕ} (n set : ℕ) → x < n → bit set x ≡ 1 → Lis
 unfolding members
 members-into {x} n set h e = keep-into (has set) (below n) (below-into n h) (has-in set x e)
 
-pub length-members : (n set : ℕ) → set < 2 ^ n → length (members n set) ≡ ones set
-unfolding members sum
-length-members n set h = sym (ones-sum n set h ∙ total-tests (has set) (bit set) (below n) (λ j m. bit-is set j))
-
 -- ---- unions
 
 pub union-into : {w : ℕ} (l : List ℕ) → List·Memᴰ w l → (j : ℕ) → bit w j ≤ bit (union l) j
 unfolding union
 union-into [] h j = absurd (List·Memᴰ·not-nil h)
-union-into {w} (v ∷ l) h j =
-    ⊎-elim {C = bit w j ≤ bit (bitOr v (union l)) j}
-    (λ e. omega (arith, bit-or v (union l) j, ap (λ x. bit x j) e))
-    (λ m. omega (arith, bit-or v (union l) j, union-into l m j))
-    (List·Memᴰ·cases-cons h)
+union-into {w} (v ∷ l) h j = elim (List·Memᴰ·cases-cons h) [
+  | inl e ↦ omega (arith, bit-or v (union l) j, ap (λ x. bit x j) e)
+  | inr m ↦ omega (arith, bit-or v (union l) j, union-into l m j)
+]
 
 pub union-from : (l : List ℕ) (j : ℕ) → bit (union l) j ≡ 1 → (w : ℕ) × List·Memᴰ w l × (bit w j ≡ 1)
 unfolding union
 union-from [] j e = absurd (omega (arith, bit-empty j))
-union-from (v ∷ l) j e = go (bit-cases v j) (union-from l j)
-  where
-    go : (bit v j ≡ 0) ⊎ (bit v j ≡ 1) → (bit (union l) j ≡ 1 → (w : ℕ) × List·Memᴰ w l × (bit w j ≡ 1)) → (w : ℕ) × List·Memᴰ w (v ∷ l) × (bit w j ≡ 1)
-    go (inl z) ih = let r = ih (omega (arith, bit-or v (union l) j, bit-lt (union l) j)) in (r .0, List·Memᴰ·tail (r .1), r .2)
-    go (inr o) ih = (v, List·Memᴰ·head refl, o)
+union-from (v ∷ l) j e = elim (bit-cases v j) [
+  | inl z ↦ let r = union-from l j (omega (arith, bit-or v (union l) j, bit-lt (union l) j)) in (r .0, List·Memᴰ·tail (r .1), r .2)
+  | inr o ↦ (v, List·Memᴰ·head refl, o)
+]
 
 pub union-lt : (k : ℕ) (l : List ℕ) → ((w : ℕ) → List·Memᴰ w l → w < 2 ^ k) → union l < 2 ^ k
 unfolding union
@@ -95,11 +83,8 @@ module _ {A : Type 0} (f : A → ℕ) where
   singles-from l j e =
       let r = union-from (map (λ y. 2 ^ f y) l) j e in
       let q = Memᴰ·of-map (λ y. 2 ^ f y) l (r .1) in
-      (q .0, q .1, at (f (q .0)) (subst (λ w. bit w j ≡ 1) (sym (q .2)) (r .2)) (ℕ-discrete j (f (q .0))))
-    where
-      at : (s : ℕ) → bit (2 ^ s) j ≡ 1 → Dec (j ≡ s) → s ≡ j
-      at s o (yes e) = sym e
-      at s o (no d) = absurd (omega (arith, bit-single-other s j d))
+      let o : bit (2 ^ f (q .0)) j ≡ 1 = rw (q .2) (r .2) in
+      (q .0, q .1, elim (ℕ-discrete j (f (q .0))) [ yes e ↦ sym e | no d ↦ absurd (omega (arith, bit-single-other (f (q .0)) j d)) ])
 
   pub singles-lt : (k : ℕ) (l : List A) → ((x : A) → List·Memᴰ x l → f x < k) → union (map (λ y. 2 ^ f y) l) < 2 ^ k
   singles-lt k l h =
@@ -146,20 +131,20 @@ module _ (f : ℕ → ℕ) (n set : ℕ) where
 -- one member apart
 pub image-pick : (f : ℕ → ℕ) (n set k : ℕ) → k < n → bit set k ≡ 1 → (j : ℕ)
     → bit (image f n set) j ≡ max (bit (2 ^ f k) j) (bit (image f n (without set k)) j)
-image-pick f n set k h b j = le-antisymm (⊎-elim (λ z. omega arith) whole (bit-cases (image f n set) j)) (omega (arith, single, rest (bit-cases (image f n (without set k)) j)))
-  where
-    whole : bit (image f n set) j ≡ 1 → bit (image f n set) j ≤ max (bit (2 ^ f k) j) (bit (image f n (without set k)) j)
-    whole o = let r = image-from f n set j o in go (r .0) (r .1) (r .2) (r .3) (ℕ-discrete (r .0) k)
-      where
-        go : (x : ℕ) → x < n → bit set x ≡ 1 → f x ≡ j → Dec (x ≡ k) → bit (image f n set) j ≤ max (bit (2 ^ f k) j) (bit (image f n (without set k)) j)
-        go x l c e (yes q) = omega (arith, bit-single (f k), ap (bit (2 ^ f k)) (sym (ap f q) ∙ e))
-        go x l c e (no d) = omega (arith, image-into f n (without set k) x l (bit-without-other set k x d ∙ c), ap (bit (image f n (without set k))) e)
-
-    single : bit (2 ^ f k) j ≤ bit (image f n set) j
-    single = at-slot (λ i. bit (2 ^ f k) i ≤ bit (image f n set) i) (f k) (omega (arith, bit-single (f k), image-into f n set k h b)) (λ i d. omega (arith, bit-single-other (f k) i d)) j
-
-    rest : (bit (image f n (without set k)) j ≡ 0) ⊎ (bit (image f n (without set k)) j ≡ 1) → bit (image f n (without set k)) j ≤ bit (image f n set) j
-    rest (inl z) = omega arith
-    rest (inr o) =
-        let r = image-from f n (without set k) j o in
-        omega (arith, image-into f n set (r .0) (r .1) (omega (arith, r .2, bit-without-le set k (r .0), bit-lt set (r .0))), ap (bit (image f n set)) (r .3))
+image-pick f n set k h b j =
+    let whole = image f n set in
+    let less = image f n (without set k) in
+    let upper : bit whole j ≡ 1 → bit whole j ≤ max (bit (2 ^ f k) j) (bit less j) = λ o.
+    let r = image-from f n set j o in elim (ℕ-discrete (r .0) k) [
+      | yes q ↦ omega (arith, bit-single (f k), ap (bit (2 ^ f k)) (sym (ap f q) ∙ r .3))
+      | no d ↦ omega (arith, image-into f n (without set k) (r .0) (r .1) (bit-without-other set k (r .0) d ∙ r .2), ap (bit less) (r .3))
+    ] in
+    let single : bit (2 ^ f k) j ≤ bit whole j =
+    at-slot (λ i. bit (2 ^ f k) i ≤ bit whole i) (f k) (omega (arith, bit-single (f k), image-into f n set k h b)) (λ i d. omega (arith, bit-single-other (f k) i d)) j in
+    let rest : bit less j ≤ bit whole j = elim (bit-cases less j) [
+      | inl z ↦ omega arith
+      | inr o ↦
+          let r = image-from f n (without set k) j o in
+          omega (arith, image-into f n set (r .0) (r .1) (omega (arith, r .2, bit-without-le set k (r .0), bit-lt set (r .0))), ap (bit whole) (r .3))
+    ] in
+    le-antisymm (elim (bit-cases whole j) [ inl z ↦ omega arith | inr o ↦ upper o ]) (omega (arith, single, rest))

@@ -4,6 +4,7 @@ use mathlib.Core.Bool.{Bool, true, false, not, cond, _&&_}
 use mathlib.Core.List.{List, [], _∷_, _++_, map, flatMap}
 use Prim.Native.Nat.{ℕ, suc, _+_, _*_}
 use native.Mathlib.Omega.{arith}
+use native.Mathlib.Decide.{ℕ-discrete}
 use borrow.Author.Tests.{eqb-true, eqb-false, eq-eqb, ne-eqb}
 use lib.Dec.{eqb}
 use lib.ListN.{length, length-append, length-map}
@@ -20,11 +21,8 @@ module _ {B : Type 0} (f : B → Bool) where
   keep-append : (l m : List B) → keep f (l ++ m) ≡ keep f l ++ keep f m
   unfolding keep
   keep-append [] m = refl
-  keep-append (x ∷ l) m = go (f x) (keep-append l m)
-    where
-      go : (b : Bool) → keep f (l ++ m) ≡ keep f l ++ keep f m → cond b (x ∷ keep f (l ++ m)) (keep f (l ++ m)) ≡ cond b (x ∷ keep f l) (keep f l) ++ keep f m
-      go true e = ap (x ∷_) e
-      go false e = e
+  keep-append (x ∷ l) m = elim (f x) as (λ b. cond b (x ∷ keep f (l ++ m)) (keep f (l ++ m)) ≡ cond b (x ∷ keep f l) (keep f l) ++ keep f m)
+      [ true ↦ ap (x ∷_) (keep-append l m) | false ↦ keep-append l m ]
 
   keep-flatMap : {A : Type 0} (g : A → List B) (l : List A) → keep f (flatMap g l) ≡ flatMap (λ x. keep f (g x)) l
   unfolding flatMap keep
@@ -34,22 +32,21 @@ module _ {B : Type 0} (f : B → Bool) where
   pub total-keep : (g : B → ℕ) (l : List B) → total g (keep f l) ≡ total (λ x. one (f x) * g x) l
   unfolding keep total
   total-keep g [] = refl
-  total-keep g (x ∷ l) = step (f x) ∙ ap (one (f x) * g x +_) (total-keep g l)
-    where
-      step : (b : Bool) → total g (cond b (x ∷ keep f l) (keep f l)) ≡ one b * g x + total g (keep f l)
-      step true = omega arith
-      step false = omega arith
+  total-keep g (x ∷ l) =
+      let step : total g (keep f (x ∷ l)) ≡ one (f x) * g x + total g (keep f l) =
+      elim (f x) as (λ b. total g (cond b (x ∷ keep f l) (keep f l)) ≡ one b * g x + total g (keep f l)) [ true ↦ omega arith | false ↦ omega arith ] in
+      step ∙ ap (one (f x) * g x +_) (total-keep g l)
 
 -- one test after the other
 pub keep-keep : {A : Type 0} (f g : A → Bool) (l : List A) → keep g (keep f l) ≡ keep (λ x. f x && g x) l
 unfolding keep
 keep-keep f g [] = refl
-keep-keep {A} f g (x ∷ l) = go (f x) (keep-keep f g l)
-  where
-    go : (b : Bool) → keep g (keep f l) ≡ keep (λ x. f x && g x) l
-        → keep g (cond b (x ∷ keep f l) (keep f l)) ≡ cond (b && g x) (x ∷ keep (λ x. f x && g x) l) (keep (λ x. f x && g x) l)
-    go true e = ap (λ r. cond (g x) (x ∷ r) r) e
-    go false e = e
+keep-keep {A} f g (x ∷ l) =
+    let both : List A = keep (λ x. f x && g x) l in
+    elim (f x) as (λ b. keep g (cond b (x ∷ keep f l) (keep f l)) ≡ cond (b && g x) (x ∷ both) both) [
+      | true ↦ ap (λ r. cond (g x) (x ∷ r) r) (keep-keep f g l)
+      | false ↦ keep-keep f g l
+    ]
 
 pub keep-same : {A : Type 0} (f g : A → Bool) (l : List A) → ((x : A) → f x ≡ g x) → keep f l ≡ keep g l
 keep-same f g l h = ap (λ k. keep k l) (fun-ext h)
@@ -62,11 +59,7 @@ total-same f g l h = ap (λ k. total k l) (fun-ext h)
 cons-keep : (w s : ℕ) (opens : List ℕ) (l : List (List ℕ))
     → keep (cellsOpen (w ∷ opens)) (map (s ∷_) l) ≡ cond (has w s) (map (s ∷_) (keep (cellsOpen opens) l)) []
 unfolding keep cellsOpen
-cons-keep w s opens [] = go (has w s)
-  where
-    go : (b : Bool) → _≡_ {A = List (List ℕ)} [] (cond b [] [])
-    go true = refl
-    go false = refl
+cons-keep w s opens [] = elim (has w s) as (λ b. _≡_ {A = List (List ℕ)} [] (cond b [] [])) [ true ↦ refl | false ↦ refl ]
 cons-keep w s opens (q ∷ l) = go (has w s) (cellsOpen opens q) (cons-keep w s opens l)
   where
     go : (b c : Bool) → keep (cellsOpen (w ∷ opens)) (map (s ∷_) l) ≡ cond b (map (s ∷_) (keep (cellsOpen opens) l)) []
@@ -107,11 +100,7 @@ ways-cons w opens slots =
 -- ---- by the last item
 
 eqb-comm : (s t : ℕ) → eqb s t ≡ eqb t s
-eqb-comm s t = go (eqb s t) refl
-  where
-    go : (b : Bool) → eqb s t ≡ b → b ≡ eqb t s
-    go true e = sym (eq-eqb t s (sym (eqb-true s t e)))
-    go false e = sym (ne-eqb t s (λ q. eqb-false s t e (sym q)))
+eqb-comm s t = elim (ℕ-discrete s t) [ yes e ↦ rw e | no d ↦ ne-eqb s t d ∙ sym (ne-eqb t s (λ q. d (sym q))) ]
 
 and-comm : (a b : Bool) → (a && b) ≡ (b && a)
 and-comm true true = refl

@@ -2,16 +2,17 @@
 -- Assumes nothing.
 use mathlib.Core.Path.{_≡_, refl, sym, ap, ap₂, _∙_, subst}
 use mathlib.Core.Logic.{_≢_, _⊎_, inl, inr, ⊎-elim}
-use mathlib.Core.Bool.{Bool, true, false}
+use mathlib.Core.Bool.{true, false}
 use Prim.Native.Nat.{ℕ, zero, suc, _+_, _-_, _*_, _/_, _%_, _^_, _≤_, _<_, min, max}
-use native.Mathlib.Nat.{le-trans, le-antisymm, lt-of-lt-of-le, mod-lt, mod-le, mod-eq-of-lt, div-one, div-eq-of-lt, div-mul-le-self, mul-assoc, mul-one, one-mul, mul-le-mul-right, pow-suc}
+use native.Mathlib.Nat.{le-trans, le-antisymm, lt-of-lt-of-le, mod-lt, mod-le, mod-eq-of-lt, div-one, div-eq-of-lt, div-mul-le-self, mul-assoc, mul-one}
+use native.Mathlib.Nat.{one-mul, mul-le-mul-right, pow-suc}
 use native.Mathlib.Numerals.{one-add}
-use native.Mathlib.Decide.{ℕ-discrete, decLt}
+use native.Mathlib.Decide.{ℕ-discrete}
 use native.Mathlib.Omega.{arith}
 use borrow.Author.Tests.{eq-eqb, ne-eqb, eqb-true, eqb-false}
-use lib.Dec.{T, lit<}
+use lib.Dec.{T, lit<, eqb→eq}
 use lib.Pow.{pow-pos, pow-mono, pow-lt, shr-shr}
-use lib.Bits.{bitAnd, bitOr, and-step, or-step, and-lt, or-lt}
+use lib.Bits.{bitAnd, bitOr, and-step, or-step}
 use Rattle.words.specs.Word.{bit, has, with, without, low, minus, select}
 
 -- ---- digit by digit
@@ -65,11 +66,8 @@ pub has-in : (w j : ℕ) → bit w j ≡ 1 → T (has w j)
 has-in w j e = subst T (sym (has-true w j e)) tt
 
 pub has-bit : (w j : ℕ) → T (has w j) → bit w j ≡ 1
-has-bit w j t = go (has w j) refl t
-  where
-    go : (b : Bool) → has w j ≡ b → T b → bit w j ≡ 1
-    go true e u = bit-one w j e
-    go false e u = absurd u
+unfolding has
+has-bit w j t = eqb→eq (bit w j) 1 t
 
 -- ---- the empty set, and words of k bits
 
@@ -82,11 +80,7 @@ unfolding bit
 bit-high k w j h l = ap (_% 2) (div-eq-of-lt (lt-of-lt-of-le h (pow-mono l)))
 
 pub bit-one-lt : (k w j : ℕ) → w < 2 ^ k → bit w j ≡ 1 → j < k
-bit-one-lt k w j h e = go (decLt j k)
-  where
-    go : Dec (j < k) → j < k
-    go (yes l) = l
-    go (no f) = absurd (omega (arith, bit-high k w j h (omega arith)))
+bit-one-lt k w j h e = let inside : k ≤ j → ⊥ = λ l. omega (arith, bit-high k w j h l) in omega arith
 
 -- a subset is no larger a number
 pub subset-le : (k a b : ℕ) → a < 2 ^ k → ((j : ℕ) → j < k → bit a j ≤ bit b j) → a ≤ b
@@ -110,12 +104,8 @@ bit-and a b (suc j) =
 
 -- the slots in both, as a product
 pub bit-and-mul : (a b j : ℕ) → bit (bitAnd a b) j ≡ bit a j * bit b j
-bit-and-mul a b j = bit-and a b j ∙ go (bit a j) (bit b j) (bit-lt a j) (bit-lt b j)
-  where
-    go : (x y : ℕ) → x < 2 → y < 2 → min x y ≡ x * y
-    go zero y h g = omega arith
-    go (suc zero) y h g = omega arith
-    go (suc (suc x)) y h g = absurd (omega arith)
+bit-and-mul a b j =
+    bit-and a b j ∙ ⊎-elim (λ z. rw z (omega arith)) (λ o. rw o (omega (arith, bit-lt b j))) (bit-cases a j)
 
 pub bit-or : (a b j : ℕ) → bit (bitOr a b) j ≡ max (bit a j) (bit b j)
 bit-or a b zero = omega (arith, bit-zero (bitOr a b), bit-zero a, bit-zero b, or-step a b)
@@ -193,8 +183,7 @@ without-zero w = ap (w -_) (mul-one (bit w 0) ∙ bit-zero w) ∙ omega arith
 
 pub without-suc : (w j : ℕ) → without w (suc j) ≡ without (w / 2) j * 2 + w % 2
 unfolding without
-without-suc w j =
-    ap (w -_) (ap (_* 2 ^ suc j) (bit-suc w j) ∙ shifted (bit (w / 2) j) j) ∙ omega (arith, bit-value-le (w / 2) j)
+without-suc w j = ap (w -_) (ap (_* 2 ^ suc j) (bit-suc w j) ∙ shifted (bit (w / 2) j) j) ∙ omega (arith, bit-value-le (w / 2) j)
 
 pub with-zero : (w : ℕ) → with w 0 ≡ w / 2 * 2 + 1
 unfolding with
@@ -250,29 +239,4 @@ shl-one k j l = ap (_% 2 ^ k) (one-mul (2 ^ j)) ∙ mod-eq-of-lt (pow-lt l)
 
 -- slot by slot: j itself, and the others
 pub at-slot : (P : ℕ → Type 0) (j : ℕ) → P j → ((i : ℕ) → i ≢ j → P i) → (i : ℕ) → P i
-at-slot P j p q i = go (ℕ-discrete i j)
-  where
-    go : Dec (i ≡ j) → P i
-    go (yes e) = subst P (sym e) p
-    go (no f) = q i f
-
-pub and-not-single : (k w j : ℕ) → w < 2 ^ k → j < k → bitAnd w ((2 ^ k - 1) - 2 ^ j) ≡ without w j
-and-not-single k w j h l =
-    ext k (bitAnd w ((2 ^ k - 1) - 2 ^ j)) (without w j)
-    (and-lt k w ((2 ^ k - 1) - 2 ^ j) h (omega (arith, pow-pos k))) (omega (arith, without-le w j))
-    (λ i g. bit-and w ((2 ^ k - 1) - 2 ^ j) i ∙ ap (min (bit w i)) (bit-not k (2 ^ j) i (pow-lt l) g) ∙ at i)
-  where
-    at : (i : ℕ) → min (bit w i) (1 - bit (2 ^ j) i) ≡ bit (without w j) i
-    at = at-slot (λ i. min (bit w i) (1 - bit (2 ^ j) i) ≡ bit (without w j) i) j
-        (omega (arith, bit-single j, bit-without w j))
-        (λ i f. omega (arith, bit-lt w i, bit-single-other j i f, bit-without-other w j i f))
-
-pub or-single : (k w j : ℕ) → w < 2 ^ k → j < k → bitOr w (2 ^ j) ≡ with w j
-or-single k w j h l =
-    ext k (bitOr w (2 ^ j)) (with w j) (or-lt k w (2 ^ j) h (pow-lt l)) (with-lt k w j h l)
-    (λ i g. bit-or w (2 ^ j) i ∙ at i)
-  where
-    at : (i : ℕ) → max (bit w i) (bit (2 ^ j) i) ≡ bit (with w j) i
-    at = at-slot (λ i. max (bit w i) (bit (2 ^ j) i) ≡ bit (with w j) i) j
-        (omega (arith, bit-lt w j, bit-single j, bit-with w j))
-        (λ i f. omega (arith, bit-lt w i, bit-single-other j i f, bit-with-other w j i f))
+at-slot P j p q i = elim (ℕ-discrete i j) [ yes e ↦ subst P (sym e) p | no f ↦ q i f ]

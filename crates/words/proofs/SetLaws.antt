@@ -1,20 +1,22 @@
 -- Words as sets: sizes, subsets, the lowest slot. Assumes nothing.
-use mathlib.Core.Path.{_≡_, refl, sym, ap, ap₂, _∙_, subst}
-use mathlib.Core.Logic.{_≢_, _⊎_, inl, inr, ⊎-elim}
-use mathlib.Core.Bool.{Bool, true, false, not, _||_}
+use mathlib.Core.Path.{_≡_, refl, sym, ap, ap₂, _∙_}
+use mathlib.Core.Logic.{_≢_, inl, inr, ⊎-elim}
+use mathlib.Core.Bool.{not, _||_}
 use Prim.Native.Nat.{ℕ, zero, suc, _+_, _-_, _*_, _/_, _%_, _^_, _≤_, _<_, min, max}
 use native.Mathlib.Nat.{lt-of-lt-of-le, lt-of-le-of-lt, zero-mul, one-mul, mul-assoc}
-use native.Mathlib.Decide.{decLt}
+use native.Mathlib.Decide.{ℕ-discrete, decLt}
 use native.Mathlib.Omega.{arith}
-use borrow.Author.Tests.{eq-eqb, ne-eqb, eqb-true, eqb-false, le-leb, lt-leb}
+use borrow.Author.Tests.{eq-eqb, ne-eqb, le-leb, lt-leb}
 use lib.Arith.{lt-one}
 use lib.Dec.{eqb, leb}
-use lib.Pow.{pow-pos, pow-mono}
+use lib.Pow.{pow-pos, pow-mono, pow-lt}
 use lib.Bits.{bitAnd, bitOr, and-lt, or-lt, and-le-l, and-le-r, or-zero-l, or-add-and}
-use lib.Count.{ones, ones-step, ones-ones, trailingZeros, under, trailing-le}
+use lib.Count.{ones, ones-step, ones-ones, trailingZeros, under}
 use Rattle.words.specs.Word.{bit, with, without, low, minus, lowest}
 use Rattle.words.specs.Sum.{sum}
-use Rattle.words.proofs.Bits.{ext, half-lt, bit-lt, bit-cases, bit-zero, bit-suc, bit-half, bit-empty, bit-high, bit-and, bit-and-mul, bit-or, bit-minus, bit-low, bit-low-high, low-lt, bit-single, bit-single-other, bit-with, bit-with-other, bit-without, bit-without-other, without-zero, without-suc, without-le, with-zero, with-suc, at-slot}
+use Rattle.words.proofs.Bits.{ext, half-lt, bit-lt, bit-cases, bit-zero, bit-suc, bit-half, bit-empty, bit-high, bit-and, bit-and-mul, bit-or, bit-not}
+use Rattle.words.proofs.Bits.{bit-minus, bit-low, bit-low-high, low-lt, bit-single, bit-single-other, bit-with, bit-with-other, bit-without, at-slot}
+use Rattle.words.proofs.Bits.{bit-without-other, without-zero, without-suc, without-le, with-lt}
 use Rattle.words.proofs.Sums.{sum-front, sum-cong, sum-le, sum-add, sum-none, sum-pick}
 
 -- ---- sizes
@@ -40,34 +42,29 @@ ones-without w (suc j) e =
     let half : without w (suc j) / 2 ≡ without (w / 2) j = omega (arith, without-suc w j) in
     omega (arith, ones-step w, ones-step (without w (suc j)), without-suc w j, ap ones half, ones-without (w / 2) j (sym (bit-suc w j) ∙ e))
 
-pub ones-with : (w j : ℕ) → bit w j ≡ 0 → ones (with w j) ≡ suc (ones w)
-ones-with w zero e =
-    let half : with w 0 / 2 ≡ w / 2 = omega (arith, with-zero w) in
-    omega (arith, ones-step w, ones-step (with w 0), with-zero w, ap ones half, bit-zero w)
-ones-with w (suc j) e =
-    let half : with w (suc j) / 2 ≡ with (w / 2) j = omega (arith, with-suc w j) in
-    omega (arith, ones-step w, ones-step (with w (suc j)), with-suc w j, ap ones half, ones-with (w / 2) j (sym (bit-suc w j) ∙ e))
+-- two words have as many slots together as two others that have as many at each
+ones-together : (k a b c d : ℕ) → a < 2 ^ k → b < 2 ^ k → c < 2 ^ k → d < 2 ^ k → ((j : ℕ) → j < k → bit a j + bit b j ≡ bit c j + bit d j)
+    → ones a + ones b ≡ ones c + ones d
+ones-together k a b c d ha hb hc hd f =
+    let same = sum-cong (λ j. bit a j + bit b j) (λ j. bit c j + bit d j) k f in
+    rw (ones-sum k a ha, ones-sum k b hb, ones-sum k c hc, ones-sum k d hd, ← sum-add (bit a) (bit b) k, ← sum-add (bit c) (bit d) k) same
 
 -- inclusion and exclusion
 pub ones-or-and : (k a b : ℕ) → a < 2 ^ k → b < 2 ^ k → ones (bitOr a b) + ones (bitAnd a b) ≡ ones a + ones b
 ones-or-and k a b ha hb =
-    ap₂ _+_ (ones-sum k (bitOr a b) (or-lt k a b ha hb)) (ones-sum k (bitAnd a b) (and-lt k a b ha hb))
-    ∙ sym (sum-add (bit (bitOr a b)) (bit (bitAnd a b)) k)
-    ∙ sum-cong (λ j. bit (bitOr a b) j + bit (bitAnd a b) j) (λ j. bit a j + bit b j) k (λ j l. omega (arith, bit-or a b j, bit-and a b j))
-    ∙ sum-add (bit a) (bit b) k
-    ∙ sym (ap₂ _+_ (ones-sum k a ha) (ones-sum k b hb))
+    ones-together k (bitOr a b) (bitAnd a b) a b (or-lt k a b ha hb) (and-lt k a b ha hb) ha hb (λ j l. omega (arith, bit-or a b j, bit-and a b j))
 
 pub minus-le : (a b : ℕ) → minus a b ≤ a
 unfolding minus
 minus-le a b = and-le-l a ((2 ^ 64 - 1) - b)
 
 pub ones-minus : (a b : ℕ) → a < 2 ^ 64 → b < 2 ^ 64 → ones (minus a b) + ones (bitAnd a b) ≡ ones a
+unfolding ones
 ones-minus a b ha hb =
-    ap₂ _+_ (ones-sum 64 (minus a b) (lt-of-le-of-lt (minus-le a b) ha)) (ones-sum 64 (bitAnd a b) (and-lt 64 a b ha hb))
-    ∙ sym (sum-add (bit (minus a b)) (bit (bitAnd a b)) 64)
-    ∙ sum-cong (λ j. bit (minus a b) j + bit (bitAnd a b) j) (bit a) 64
-    (λ j l. omega (arith, bit-minus a b j hb l, bit-and a b j, bit-lt a j, bit-lt b j))
-    ∙ sym (ones-sum 64 a ha)
+    let both =
+    ones-together 64 (minus a b) (bitAnd a b) a 0 (lt-of-le-of-lt (minus-le a b) ha) (and-lt 64 a b ha hb) ha (pow-pos 64)
+    (λ j l. omega (arith, bit-minus a b j hb l, bit-and a b j, bit-lt a j, bit-lt b j, bit-empty j)) in
+    omega (arith, both)
 
 -- ---- sums over the slots of a word
 
@@ -95,12 +92,10 @@ bit-with-max w j =
     (λ i d. omega (arith, bit-with-other w j i d, bit-single-other j i d))
 
 pub bit-with-le : (w j i : ℕ) → bit w i ≤ bit (with w j) i
-bit-with-le w j =
-    at-slot (λ i. bit w i ≤ bit (with w j) i) j (omega (arith, bit-with w j, bit-lt w j)) (λ i d. omega (arith, bit-with-other w j i d))
+bit-with-le w j = at-slot (λ i. bit w i ≤ bit (with w j) i) j (omega (arith, bit-with w j, bit-lt w j)) (λ i d. omega (arith, bit-with-other w j i d))
 
 pub bit-without-le : (w j i : ℕ) → bit (without w j) i ≤ bit w i
-bit-without-le w j =
-    at-slot (λ i. bit (without w j) i ≤ bit w i) j (omega (arith, bit-without w j)) (λ i d. omega (arith, bit-without-other w j i d))
+bit-without-le w j = at-slot (λ i. bit (without w j) i ≤ bit w i) j (omega (arith, bit-without w j)) (λ i d. omega (arith, bit-without-other w j i d))
 
 pub empty : (k w : ℕ) → w < 2 ^ k → ((j : ℕ) → j < k → bit w j ≡ 0) → w ≡ 0
 empty k w h f = ext k w 0 h (pow-pos k) (λ j l. f j l ∙ sym (bit-empty j))
@@ -116,28 +111,24 @@ pub ones-proper : (k a b j : ℕ) → a < 2 ^ k → b < 2 ^ k → ((i : ℕ) →
 ones-proper k a b j ha hb f e o =
     let s =
     ones-subset k a (without b j) ha (omega (arith, without-le b j))
-    (λ i l. at-slot (λ i. bit a i ≤ bit b i → bit a i ≤ bit (without b j) i) j (λ m. omega arith) (λ i d m. omega (arith, bit-without-other b j i d)) i (f i l)) in
+    (λ i l.
+    at-slot (λ i. bit a i ≤ bit b i → bit a i ≤ bit (without b j) i) j (λ m. omega arith) (λ i d m. omega (arith, bit-without-other b j i d)) i (f i l)) in
     omega (arith, ones-without b j o)
 
 -- a subset of the same size is the whole
 pub subset-eq : (k a b : ℕ) → a < 2 ^ k → b < 2 ^ k → ((j : ℕ) → j < k → bit a j ≤ bit b j) → ones a ≡ ones b → a ≡ b
-subset-eq k a b ha hb f e = ext k a b ha hb (λ j l. go j (bit-cases a j) (bit-cases b j) (f j l))
-  where
-    go : (j : ℕ) → (bit a j ≡ 0) ⊎ (bit a j ≡ 1) → (bit b j ≡ 0) ⊎ (bit b j ≡ 1) → bit a j ≤ bit b j → bit a j ≡ bit b j
-    go j (inl x) (inl y) m = x ∙ sym y
-    go j (inl x) (inr y) m = absurd (omega (arith, ones-proper k a b j ha hb f x y))
-    go j (inr x) d m = omega (arith, bit-lt b j)
+subset-eq k a b ha hb f e =
+    ext k a b ha hb (λ j l. elim (bit-cases a j) [
+      | inl x ↦ elim (bit-cases b j) [ inl y ↦ x ∙ sym y | inr y ↦ absurd (omega (arith, ones-proper k a b j ha hb f x y)) ]
+      | inr x ↦ omega (arith, f j l, bit-lt b j)
+    ])
 
 -- no slot from n on
 pub high-empty : (k w n : ℕ) → w < 2 ^ k → ((j : ℕ) → n ≤ j → j < k → bit w j ≡ 0) → w < 2 ^ n
 high-empty k w n h f =
-    let same : w ≡ bitAnd w (low n) =
-    ext k w (bitAnd w (low n)) h (lt-of-le-of-lt (and-le-l w (low n)) h) (λ j l. at j l (decLt j n) ∙ sym (bit-and w (low n) j)) in
+    let same : w ≡ bitAnd w (low n) = ext k w (bitAnd w (low n)) h (lt-of-le-of-lt (and-le-l w (low n)) h) (λ j l.
+    let b = bit-and w (low n) j in elim (decLt j n) [ yes d ↦ omega (arith, bit-low n j d, bit-lt w j) | no d ↦ omega (arith, f j (omega arith) l) ]) in
     omega (arith, same, and-le-r w (low n), low-lt n)
-  where
-    at : (j : ℕ) → j < k → Dec (j < n) → bit w j ≡ min (bit w j) (bit (low n) j)
-    at j l (yes d) = omega (arith, bit-low n j d, bit-lt w j)
-    at j l (no d) = omega (arith, f j (omega arith) l)
 
 -- the slots of a from n on
 pub bit-from : (a n j : ℕ) → n ≤ 64 → j < 64 → n ≤ j → bit (minus a (low n)) j ≡ bit a j
@@ -148,32 +139,38 @@ bit-not-from a n j h g = omega (arith, bit-minus a (low n) j (lt-of-lt-of-le (lo
 
 -- w has a slot from n on
 pub has-from : (n w : ℕ) → n ≤ 64 → w < 2 ^ 64 → not (eqb (minus w (low n)) 0) ≡ leb (2 ^ n) w
-has-from n w h l = go (decLt w (2 ^ n))
-  where
-    high : (j : ℕ) → minus w (low n) ≡ 0 → n ≤ j → j < 64 → bit w j ≡ 0
-    high j e a b = sym (bit-from w n j h b a) ∙ ap (λ x. bit x j) e ∙ bit-empty j
-
-    none : w < 2 ^ n → (j : ℕ) → j < 64 → Dec (j < n) → bit (minus w (low n)) j ≡ bit 0 j
-    none a j b (yes d) = bit-not-from w n j h d ∙ sym (bit-empty j)
-    none a j b (no d) = bit-from w n j h b (omega arith) ∙ bit-high n w j a (omega arith) ∙ sym (bit-empty j)
-
-    go : Dec (w < 2 ^ n) → not (eqb (minus w (low n)) 0) ≡ leb (2 ^ n) w
-    go (yes a) =
-        let e = ext 64 (minus w (low n)) 0 (lt-of-le-of-lt (minus-le w (low n)) l) (pow-pos 64) (λ j b. none a j b (decLt j n)) in
-        ap not (eq-eqb (minus w (low n)) 0 e) ∙ sym (lt-leb (2 ^ n) w a)
-    go (no a) =
-        let d : minus w (low n) ≢ 0 = λ e. a (high-empty 64 w n l (λ j. high j e)) in
-        ap not (ne-eqb (minus w (low n)) 0 d) ∙ sym (le-leb (2 ^ n) w (omega arith))
+has-from n w h l = elim (decLt w (2 ^ n)) [
+  | yes a ↦
+      let none : (j : ℕ) → j < 64 → bit (minus w (low n)) j ≡ 0 = λ j b. elim (decLt j n) [
+        | yes d ↦ bit-not-from w n j h d
+        | no d ↦ bit-from w n j h b (omega arith) ∙ bit-high n w j a (omega arith)
+      ] in
+      rw (eq-eqb (minus w (low n)) 0 (empty 64 (minus w (low n)) (lt-of-le-of-lt (minus-le w (low n)) l) none), lt-leb (2 ^ n) w a)
+  | no a ↦
+      let high : minus w (low n) ≡ 0 → (j : ℕ) → n ≤ j → j < 64 → bit w j ≡ 0 = λ e j d b. sym (bit-from w n j h b d) ∙ ap (λ x. bit x j) e ∙ bit-empty j in
+      rw (ne-eqb (minus w (low n)) 0 (λ e. a (high-empty 64 w n l (high e))), le-leb (2 ^ n) w (omega arith))
+]
 
 -- a union has a slot if one of the two has
 pub or-some : (a b : ℕ) → not (eqb (bitOr a b) 0) ≡ (not (eqb a 0) || not (eqb b 0))
-or-some a b = go (eqb a 0) refl
-  where
-    go : (t : Bool) → eqb a 0 ≡ t → not (eqb (bitOr a b) 0) ≡ (not t || not (eqb b 0))
-    go true e = ap (λ x. not (eqb x 0)) (ap (λ x. bitOr x b) (eqb-true a 0 e) ∙ or-zero-l b)
-    go false e =
-        let d = eqb-false a 0 e in
-        ap not (ne-eqb (bitOr a b) 0 (λ z. d (omega (arith, or-add-and a b, and-le-r a b))))
+or-some a b = elim (ℕ-discrete a 0) [
+  | yes e ↦ rw (e, or-zero-l b)
+  | no d ↦ rw (ne-eqb a 0 d, ne-eqb (bitOr a b) 0 (λ z. d (omega (arith, or-add-and a b, and-le-r a b))))
+]
+
+-- ---- one slot more or less, as the machine makes them
+
+pub or-single : (k w j : ℕ) → w < 2 ^ k → j < k → bitOr w (2 ^ j) ≡ with w j
+or-single k w j h l =
+    ext k (bitOr w (2 ^ j)) (with w j) (or-lt k w (2 ^ j) h (pow-lt l)) (with-lt k w j h l) (λ i g. bit-or w (2 ^ j) i ∙ sym (bit-with-max w j i))
+
+pub and-not-single : (k w j : ℕ) → w < 2 ^ k → j < k → bitAnd w ((2 ^ k - 1) - 2 ^ j) ≡ without w j
+and-not-single k w j h l =
+    let rest = (2 ^ k - 1) - 2 ^ j in
+    ext k (bitAnd w rest) (without w j) (and-lt k w rest h (omega (arith, pow-pos k))) (omega (arith, without-le w j))
+    (λ i g. bit-and w rest i ∙ ap (min (bit w i)) (bit-not k (2 ^ j) i (pow-lt l) g)
+    ∙ at-slot (λ i. min (bit w i) (1 - bit (2 ^ j) i) ≡ bit (without w j) i) j (omega (arith, bit-single j, bit-without w j))
+    (λ i f. omega (arith, bit-lt w i, bit-single-other j i f, bit-without-other w j i f)) i)
 
 -- ---- the lowest slot
 
@@ -244,29 +241,11 @@ module _ (w : ℕ) (z : w ≢ 0) (h : w < 2 ^ 64) where
   -- w & (w - 1) is w without its lowest slot
   pub and-pred : bitAnd w (w - 1) ≡ without w (lowest w)
   and-pred =
-      ext 64 (bitAnd w (w - 1)) (without w (lowest w)) (omega (arith, and-le-l w (w - 1))) (omega (arith, without-le w (lowest w)))
-      (λ i l. bit-and w (w - 1) i ∙ at i)
-    where
-      side : (i : ℕ) → Dec (i < lowest w) → i ≢ lowest w → min (bit w i) (bit (w - 1) i) ≡ bit w i
-      side i (yes g) d = omega (arith, below-lowest i g)
-      side i (no g) d = omega (arith, lowest-found .above i (omega arith))
-
-      at : (i : ℕ) → min (bit w i) (bit (w - 1) i) ≡ bit (without w (lowest w)) i
-      at = at-slot (λ i. min (bit w i) (bit (w - 1) i) ≡ bit (without w (lowest w)) i) (lowest w)
-          (omega (arith, lowest-found .cleared, bit-without w (lowest w)))
-          (λ i d. side i (decLt i (lowest w)) d ∙ sym (bit-without-other w (lowest w) i d))
-
-pub lowest-le : (w : ℕ) → lowest w ≤ 64
-unfolding lowest
-lowest-le w = trailing-le 64 w
-
--- the one slot with none below it
-pub lowest-is : (w j : ℕ) → w < 2 ^ 64 → bit w j ≡ 1 → ((i : ℕ) → i < j → bit w i ≡ 0) → lowest w ≡ j
-lowest-is w j h e f =
-    let some : w ≢ 0 = λ z. omega (arith, subst (λ x. bit x j ≡ 1) z e, bit-empty j) in
-    go some (decLt (lowest w) j) (decLt j (lowest w))
-  where
-    go : w ≢ 0 → Dec (lowest w < j) → Dec (j < lowest w) → lowest w ≡ j
-    go s (yes l) d = absurd (omega (arith, f (lowest w) l, bit-lowest w s h))
-    go s (no l) (yes m) = absurd (omega (arith, below-lowest w s h j m))
-    go s (no l) (no m) = omega arith
+      ext 64 (bitAnd w (w - 1)) (without w (lowest w)) (omega (arith, and-le-l w (w - 1))) (omega (arith, without-le w (lowest w))) (λ i l.
+      bit-and w (w - 1) i
+      ∙ at-slot (λ i. min (bit w i) (bit (w - 1) i) ≡ bit (without w (lowest w)) i) (lowest w)
+      (omega (arith, lowest-found .cleared, bit-without w (lowest w)))
+      (λ i d. elim (decLt i (lowest w)) [
+        | yes g ↦ omega (arith, below-lowest i g, bit-without-other w (lowest w) i d)
+        | no g ↦ omega (arith, lowest-found .above i (omega arith), bit-without-other w (lowest w) i d)
+      ]) i)

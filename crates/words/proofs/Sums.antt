@@ -1,9 +1,9 @@
 -- Sums over lists and over slots, and the counting law: an injection carries a sum to no more (the pigeonhole principle).
 -- Assumes nothing.
 use mathlib.Core.Path.{_≡_, refl, sym, ap, ap₂, _∙_}
-use mathlib.Core.Logic.{_≢_, ⊎-elim}
+use mathlib.Core.Logic.{_≢_, inl, inr}
 use mathlib.Core.Bool.{cond}
-use mathlib.Core.List.{List, [], _∷_, _++_, map, List·Memᴰ, List·Memᴰ·head, List·Memᴰ·tail, List·Memᴰ·not-nil, List·Memᴰ·cases-cons}
+use mathlib.Core.List.{List, [], _∷_, map, List·Memᴰ, List·Memᴰ·head, List·Memᴰ·tail, List·Memᴰ·not-nil, List·Memᴰ·cases-cons}
 use Prim.Native.Nat.{ℕ, zero, suc, _+_, _-_, _*_, _≤_, _<_}
 use native.Mathlib.Nat.{add-zero, zero-add, add-suc, suc-add, mul-zero, mul-add}
 use native.Mathlib.Decide.{ℕ-discrete}
@@ -19,20 +19,16 @@ use Rattle.words.proofs.Bits.{at-slot}
 pub upFrom-from : {x : ℕ} (a n : ℕ) → List·Memᴰ x (upFrom a n) → (a ≤ x) × (x < a + n)
 unfolding upFrom
 upFrom-from a zero h = absurd (List·Memᴰ·not-nil h)
-upFrom-from {x} a (suc n) h =
-    ⊎-elim {C = (a ≤ x) × (x < a + suc n)}
-    (λ q. (omega arith, omega arith))
-    (λ m. let r = upFrom-from (suc a) n m in (omega arith, omega arith))
-    (List·Memᴰ·cases-cons h)
+upFrom-from {x} a (suc n) h = elim (List·Memᴰ·cases-cons h) [
+  | inl q ↦ (omega arith, omega arith)
+  | inr m ↦ let r = upFrom-from (suc a) n m in (omega arith, omega arith)
+]
 
 pub upFrom-into : {x : ℕ} (a n : ℕ) → a ≤ x → x < a + n → List·Memᴰ x (upFrom a n)
 unfolding upFrom
 upFrom-into a zero h k = absurd (omega arith)
-upFrom-into {x} a (suc n) h k = go (λ g. upFrom-into (suc a) n g (omega arith)) (ℕ-discrete x a)
-  where
-    go : (suc a ≤ x → List·Memᴰ x (upFrom (suc a) n)) → Dec (x ≡ a) → List·Memᴰ x (a ∷ upFrom (suc a) n)
-    go ih (yes q) = List·Memᴰ·head q
-    go ih (no q) = List·Memᴰ·tail (ih (omega arith))
+upFrom-into {x} a (suc n) h k =
+    elim (ℕ-discrete x a) [ yes q ↦ List·Memᴰ·head q | no q ↦ List·Memᴰ·tail (upFrom-into (suc a) n (omega arith) (omega arith)) ]
 
 pub below-from : {x : ℕ} (n : ℕ) → List·Memᴰ x (below n) → x < n
 unfolding below
@@ -93,11 +89,6 @@ module _ {A : Type 0} where
   total-scale c f [] = sym (mul-zero c)
   total-scale c f (x ∷ l) = ap (c * f x +_) (total-scale c f l) ∙ sym (mul-add c (f x) (total f l))
 
-  pub total-append : (f : A → ℕ) (l m : List A) → total f (l ++ m) ≡ total f l + total f m
-  unfolding total
-  total-append f [] m = omega arith
-  total-append f (x ∷ l) m = let e = total-append f l m in omega arith
-
 -- two sums change places
 pub total-swap : {A B : Type 0} (f : A → B → ℕ) (l : List A) (m : List B) → total (λ x. total (f x) m) l ≡ total (λ y. total (λ x. f x y) l) m
 unfolding total
@@ -156,13 +147,10 @@ sum-none f n h = sum-cong f (λ i. 0) n h ∙ sum-const 0 n ∙ mul-zero n
 -- g is f but for slot j, where it is 0
 pub sum-pick : (f g : ℕ → ℕ) (n j : ℕ) → j < n → g j ≡ 0 → ((i : ℕ) → i ≢ j → g i ≡ f i) → sum f n ≡ f j + sum g n
 sum-pick f g zero j l z h = absurd (omega arith)
-sum-pick f g (suc n) j l z h = go (ℕ-discrete n j) (λ m. sum-pick f g n j m z h)
-  where
-    go : Dec (n ≡ j) → (j < n → sum f n ≡ f j + sum g n) → sum f (suc n) ≡ f j + sum g (suc n)
-    go (yes e) ih =
-        let same = sum-cong f g n (λ i m. sym (h i (omega arith))) in
-        omega (arith, sum-suc f n, sum-suc g n, ap f e, ap g e)
-    go (no d) ih = omega (arith, sum-suc f n, sum-suc g n, h n d, ih (omega arith))
+sum-pick f g (suc n) j l z h = elim (ℕ-discrete n j) [
+  | yes e ↦ omega (arith, sum-suc f n, sum-suc g n, ap f e, ap g e, sum-cong f g n (λ i m. sym (h i (omega arith))))
+  | no d ↦ omega (arith, sum-suc f n, sum-suc g n, h n d, sum-pick f g n j (omega arith) z h)
+]
 
 -- f with 0 at slot j
 unfoldable pub except : (ℕ → ℕ) → ℕ → ℕ → ℕ
@@ -194,20 +182,19 @@ pub sum-injection : (n m : ℕ) (g f p : ℕ → ℕ) → ((i : ℕ) → i < n �
     → ((i k : ℕ) → i < n → k < n → g i ≢ 0 → g k ≢ 0 → p i ≡ p k → i ≡ k) → sum g n ≤ sum f m
 sum-injection zero m g f p into most apart = omega (arith, sum-zero g)
 sum-injection (suc n) m g f p into most apart =
-    go (ℕ-discrete (g n) 0)
-    (λ f′ most′. sum-injection n m g f′ p (λ i h. into i (omega arith)) most′ (λ i k h h′. apart i k (omega arith) (omega arith)))
-  where
-    go : Dec (g n ≡ 0) → ((f′ : ℕ → ℕ) → ((i : ℕ) → i < n → g i ≢ 0 → g i ≤ f′ (p i)) → sum g n ≤ sum f′ m) → sum g (suc n) ≤ sum f m
-    go (yes z) ih = omega (arith, sum-suc g n, ih f (λ i h. most i (omega arith)))
-    go (no z) ih =
-        let rest = ih (except f (p n)) (λ i h y.
-        let d : p i ≢ p n = λ e. let q = apart i n (omega arith) (omega arith) y z e in omega arith in
-        omega (arith, most i (omega arith) y, except-other f (p n) (p i) d)) in
-        omega (arith, sum-suc g n, sum-except f m (p n) (into n (omega arith) z), most n (omega arith) z)
+    let ih : (f′ : ℕ → ℕ) → ((i : ℕ) → i < n → g i ≢ 0 → g i ≤ f′ (p i)) → sum g n ≤ sum f′ m =
+    λ f′ most′. sum-injection n m g f′ p (λ i h. into i (omega arith)) most′ (λ i k h h′. apart i k (omega arith) (omega arith)) in
+    elim (ℕ-discrete (g n) 0) [
+      | yes z ↦ omega (arith, sum-suc g n, ih f (λ i h. most i (omega arith)))
+      | no z ↦
+          let rest = ih (except f (p n)) (λ i h y.
+          let d : p i ≢ p n = λ e. let q = apart i n (omega arith) (omega arith) y z e in omega arith in
+          omega (arith, most i (omega arith) y, except-other f (p n) (p i) d)) in
+          omega (arith, sum-suc g n, sum-except f m (p n) (into n (omega arith) z), most n (omega arith) z)
+    ]
 
 -- p is a permutation of the slots below n: it carries f's sum to itself, since no sum can grow, that of the complement neither
-pub sum-permutation : (n : ℕ) (f p : ℕ → ℕ) → ((i : ℕ) → i < n → p i < n) → ((i k : ℕ) → i < n → k < n → p i ≡ p k → i ≡ k)
-    → sum (λ i. f (p i)) n ≡ sum f n
+pub sum-permutation : (n : ℕ) (f p : ℕ → ℕ) → ((i : ℕ) → i < n → p i < n) → ((i k : ℕ) → i < n → k < n → p i ≡ p k → i ≡ k) → sum (λ i. f (p i)) n ≡ sum f n
 sum-permutation n f p into apart =
     let s = sum f n in
     let most : (k : ℕ) → k < n → f k ≤ s = λ k h. omega (arith, sum-except f n k h) in

@@ -1,5 +1,5 @@
 -- A sweep over a table: the entries before i are new, the others old. Assumes nothing.
-use mathlib.Core.Path.{_≡_, refl, sym, ap, _∙_}
+use mathlib.Core.Path.{_≡_, refl, _∙_}
 use mathlib.Core.List.{List}
 use Prim.Native.Nat.{ℕ, _+_, _≤_, _<_}
 use native.Mathlib.Decide.{ℕ-discrete}
@@ -19,10 +19,9 @@ pub sweep-turn : {size : ℕ} {old new : ℕ → ℕ} {a : List ℕ} {i v : ℕ}
 sweep-turn {size} {old} {new} {a} {i} {v} S h e =
     record {
       sized = length-set a i v ∙ S .sized;
-      done = λ k l. at k l (ℕ-discrete k i);
+      done = λ k l. elim (ℕ-discrete k i) [
+        | yes q ↦ rw q (getD-set-same a i v 0 (omega (arith, S .sized)) ∙ e)
+        | no d ↦ getD-set-other a i k v 0 d ∙ S .done k (omega arith)
+      ];
       rest = λ k l. getD-set-other a i k v 0 (λ q. omega arith) ∙ S .rest k (omega arith);
     }
-  where
-    at : (k : ℕ) → k < i + 1 → Dec (k ≡ i) → getD (set a i v) k 0 ≡ new k
-    at k l (yes q) = ap (λ x. getD (set a i v) x 0) q ∙ getD-set-same a i v 0 (omega (arith, S .sized)) ∙ e ∙ ap new (sym q)
-    at k l (no d) = getD-set-other a i k v 0 d ∙ S .done k (omega arith)

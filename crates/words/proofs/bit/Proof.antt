@@ -5,9 +5,6 @@ use Rattle.words.specs.Word.{bit}
 use Rattle.words.proofs.bit.Statement.{statement}
 use Rattle.words.proofs.bit.Tie as tie
 
-returns : tie.Need-returns
-unfolding bit
-returns c = refl
-
 pub bit-spec : {M : Type 1} → statement M
-bit-spec = tie.close (tie.spec (λ c. search needs) returns)
+unfolding bit
+bit-spec = tie.close (tie.spec (λ c. search needs) (λ c. refl))

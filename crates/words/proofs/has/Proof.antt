@@ -5,9 +5,6 @@ use Rattle.words.specs.Word.{has}
 use Rattle.words.proofs.has.Statement.{statement}
 use Rattle.words.proofs.has.Tie as tie
 
-returns : tie.Need-returns
-unfolding has
-returns c = refl
-
 pub has-spec : {M : Type 1} → statement M
-has-spec = tie.close (tie.spec (λ c. search needs) returns)
+unfolding has
+has-spec = tie.close (tie.spec (λ c. search needs) (λ c. refl))

@@ -8,14 +8,8 @@ use Rattle.words.proofs.Bits.{shl-one}
 use Rattle.words.proofs.low.Statement.{statement}
 use Rattle.words.proofs.low.Tie as tie
 
-returns : tie.Need-returns
-unfolding low
-returns c = let full : 64 ≡ c .before .args .n = omega arith in ap low full
-
-returns-2 : tie.Need-returns-2
-unfolding low
-returns-2 c = rw (shl-one 64 (c .before .args .n) (omega arith))
-
 pub low-spec : {M : Type 1} → statement M
+unfolding low
 low-spec =
-    tie.close (tie.spec returns (λ c. search needs) (λ c. rw (shl-one 64 (c .before .args .n) (omega arith)) (pow-pos (c .before .args .n))) returns-2)
+    tie.close (tie.spec (λ c. let full : 64 ≡ c .before .args .n = omega arith in ap low full) (λ c. search needs)
+    (λ c. rw (shl-one 64 (c .before .args .n) (omega arith)) (pow-pos (c .before .args .n))) (λ c. rw (shl-one 64 (c .before .args .n) (omega arith))))

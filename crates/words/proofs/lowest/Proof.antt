@@ -6,9 +6,6 @@ use Rattle.words.specs.Word.{lowest}
 use Rattle.words.proofs.lowest.Statement.{statement}
 use Rattle.words.proofs.lowest.Tie as tie
 
-returns : tie.Need-returns
-unfolding lowest
-returns c = refl
-
 pub lowest-spec : {M : Type 1} → statement M
-lowest-spec = tie.close (tie.spec (λ c. record { fits = omega (arith, trailing-le 64 (c .args .w)) }) returns)
+unfolding lowest
+lowest-spec = tie.close (tie.spec (λ c. record { fits = omega (arith, trailing-le 64 (c .args .w)) }) (λ c. refl))

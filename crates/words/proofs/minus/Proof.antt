@@ -4,9 +4,6 @@ use Rattle.words.specs.Word.{minus}
 use Rattle.words.proofs.minus.Statement.{statement}
 use Rattle.words.proofs.minus.Tie as tie
 
-returns : tie.Need-returns
-unfolding minus
-returns c = refl
-
 pub minus-spec : {M : Type 1} → statement M
-minus-spec = tie.close (tie.spec returns)
+unfolding minus
+minus-spec = tie.close (tie.spec (λ c. refl))

@@ -4,9 +4,6 @@ use Rattle.words.specs.Word.{select}
 use Rattle.words.proofs.select.Statement.{statement}
 use Rattle.words.proofs.select.Tie as tie
 
-returns : tie.Need-returns
-unfolding select
-returns c = rw (c .minus .ensures)
-
 pub select-spec : {M : Type 1} → statement M
-select-spec = tie.close (tie.spec (λ c κs. search needs) returns)
+unfolding select
+select-spec = tie.close (tie.spec (λ c κs. search needs) (λ c. rw (c .minus .ensures)))

@@ -18,7 +18,8 @@ loop-again : tie.Need-loop-again Inv-loop μ-loop
 loop-again c =
     let head = c .before .before in
     let at = head .before .args in
-    (omega arith, rw (head .loop .inv .1) (front-more (at .words .now) (at .table .now) (head .loop .i) (omega arith) (omega arith)), simp length-set (head .loop .inv .2))
+    let more = front-more (at .words .now) (at .table .now) (head .loop .i) (omega arith) (omega arith) in
+    (omega arith, rw (head .loop .inv .1) more, simp length-set (head .loop .inv .2))
 
 returns : tie.Need-returns Inv-loop μ-loop
 returns c =
