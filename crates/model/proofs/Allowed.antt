@@ -1,6 +1,6 @@
 -- The allowed slots: which plans stand behind a bit; equal listings exactly if equal allowed words. Assumes nothing.
 use mathlib.Core.Path.{_≡_, sym, ap, ap₂, _∙_, subst}
-use mathlib.Core.Logic.{_⊎_, inl, inr, _↔_}
+use mathlib.Core.Logic.{inl, inr, _↔_}
 use mathlib.Core.List.{List, [], map}
 use Prim.Native.Nat.{ℕ, _^_, _<_, _≤_}
 use native.Mathlib.Omega.{arith}
@@ -82,5 +82,6 @@ same-listing m opens opens′ few e range range′ = (
   λ w.
       rising-same (plans m opens) (plans m opens′) (plans-rise m opens) (plans-rise m opens′)
       (λ p h. plan-into m opens′ (omega arith) range′ p (crossing m opens opens′ few e range range′ w p (plan-from m opens few range p h)))
-      (λ p h. plan-into m opens few range p (crossing m opens′ opens (omega arith) (sym e) range′ range (sym w) p (plan-from m opens′ (omega arith) range′ p h))),
+      (λ p h.
+      plan-into m opens few range p (crossing m opens′ opens (omega arith) (sym e) range′ range (sym w) p (plan-from m opens′ (omega arith) range′ p h))),
 )

@@ -1,7 +1,7 @@
 -- The number of each call's answer: that of its first refusal, or what the call itself finds. Assumes nothing.
 use mathlib.Core.Path.{_≡_, refl, _∙_}
 use mathlib.Core.List.{List}
-use Prim.Native.Nat.{ℕ, _*_}
+use Prim.Native.Nat.{ℕ}
 use Rattle.model.specs.declared.Edition.{Edition}
 use Rattle.model.specs.declared.Plan.{Plan}
 use Rattle.model.specs.declared.PlanAnswer.{PlanAnswer}
@@ -14,7 +14,7 @@ use Rattle.model.specs.Refusal.{orElse, unless}
 use Rattle.model.specs.Rota.{tableCode}
 use Rattle.model.specs.Fewest.{fewest}
 use Rattle.model.specs.Count.{count}
-use Rattle.model.specs.File.{blocksFor, itemsIn, slotsIn, opensIn, calloutsIn}
+use Rattle.model.specs.File.{itemsIn, slotsIn, opensIn, calloutsIn}
 use Rattle.model.specs.PlanAnswers.{refused, firstFrom, firstAnswer, nextFrom, nextAnswer, fewestFrom, fewestAnswer}
 use Rattle.model.specs.CountAnswers.{countRefused, countCode, countAnswer}
 use Rattle.model.specs.PriceAnswers.{gradeRefused, gradeBy, gradeAnswer, priceRefused, priceBy, priceCode, priceAnswer}
@@ -40,21 +40,20 @@ module _ (n m : ℕ) (opens callouts : List ℕ) where
   module _ (words : ℕ) where
     pub count-code : countAnswer n m opens callouts words .code ≡ countCode n m opens callouts words
     unfolding countAnswer
-    count-code = unless-code (λ (x : CountAnswer). x .code) countRefused (λ c. refl) (countCode n m opens callouts words) (record { code = 0; count = count m opens }) ∙ or-none _
+    count-code = unless-code (λ (x : CountAnswer). x .code) countRefused (λ c. refl) (countCode n m opens callouts words) _ ∙ or-none _
 
     pub grade-code : gradeAnswer n m opens callouts words .code ≡ orElse (countCode n m opens callouts words) (gradeBy opens (count m opens) .code)
     unfolding gradeAnswer
-    grade-code = unless-code (λ (x : GradeAnswer). x .code) gradeRefused (λ c. refl) (countCode n m opens callouts words) (gradeBy opens (count m opens))
+    grade-code = unless-code (λ (x : GradeAnswer). x .code) gradeRefused (λ c. refl) (countCode n m opens callouts words) _
 
     pub price-code : (vehicles : ℕ) → priceAnswer n m opens callouts vehicles words .code
         ≡ orElse (priceCode n m opens callouts vehicles words) (priceBy opens (count m opens) vehicles (fewest m opens callouts) .code)
     unfolding priceAnswer
-    price-code vehicles =
-        unless-code (λ (x : PriceAnswer). x .code) priceRefused (λ c. refl) (priceCode n m opens callouts vehicles words) (priceBy opens (count m opens) vehicles (fewest m opens callouts))
+    price-code vehicles = unless-code (λ (x : PriceAnswer). x .code) priceRefused (λ c. refl) (priceCode n m opens callouts vehicles words) _
 
   pub write-code : (places : ℕ) → writeAnswer n m opens callouts places .code ≡ writeCode n m opens callouts places
   unfolding writeAnswer
-  write-code places = unless-code (λ (x : WriteAnswer). x .code) writeRefused (λ c. refl) (writeCode n m opens callouts places) (record { code = 0; bytes = 512 * blocksFor n }) ∙ or-none _
+  write-code places = unless-code (λ (x : WriteAnswer). x .code) writeRefused (λ c. refl) (writeCode n m opens callouts places) _ ∙ or-none _
 
 module _ (e : Edition) (file : List ℕ) where
   pub read-code : (o k : ℕ) → readAnswer e file o k .code ≡ readCode e file o k

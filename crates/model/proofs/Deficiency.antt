@@ -3,7 +3,7 @@
 use mathlib.Core.Path.{_≡_, refl, sym, ap, _∙_, subst}
 use mathlib.Core.Logic.{_≢_, inl, inr}
 use mathlib.Core.List.{List, [], _∷_, map, List·Memᴰ, List·Memᴰ·not-nil, Memᴰ·map, Memᴰ·of-map}
-use Prim.Native.Nat.{ℕ, _+_, _-_, _^_, _<_, _≤_}
+use Prim.Native.Nat.{ℕ, _+_, _^_, _<_, _≤_}
 use native.Mathlib.Nat.{le-antisymm}
 use native.Mathlib.Omega.{arith}
 use lib.Bits.{bitAnd, bitOr, and-lt, or-lt}
@@ -16,7 +16,7 @@ use Rattle.words.specs.Sum.{below}
 use Rattle.words.proofs.Bits.{bit-lt, bit-and, bit-or, bit-one-lt, bit-cases}
 use Rattle.words.proofs.Sums.{below-from, below-into, sum-injection}
 use Rattle.words.proofs.SetLaws.{ones-sum, ones-or-and, ones-subset, subset-eq}
-use Rattle.model.specs.Lists.{greatest, least}
+use Rattle.model.specs.Lists.{least}
 use Rattle.model.specs.Sets.{members}
 use Rattle.model.specs.Plans.{IsPlan}
 use Rattle.model.specs.Deficiency.{neighbours, shortBy, itemSets, deficiency, deficientSets, deficientSet}
@@ -84,13 +84,13 @@ module _ (opens : List ℕ) where
 
   some-deficient : (set : ℕ) × List·Memᴰ set (deficientSets opens)
   unfolding deficiency itemSets
-  some-deficient = go (below (2 ^ length opens)) refl (below-into (2 ^ length opens) (pow-pos (length opens)))
-    where
-      go : (l : List ℕ) → below (2 ^ length opens) ≡ l → List·Memᴰ 0 (below (2 ^ length opens)) → (set : ℕ) × List·Memᴰ set (deficientSets opens)
-      go [] e h = absurd (List·Memᴰ·not-nil (subst (List·Memᴰ 0) e h))
-      go (x ∷ l) e h =
-          let r = greatest-some (shortBy opens) x l in
-          (r .0, into-deficient (r .0) (below-from (2 ^ length opens) (subst (List·Memᴰ (r .0)) (sym e) (r .1)), r .2 ∙ ap (λ k. greatest (map (shortBy opens) k)) (sym e)))
+  some-deficient = elim (below (2 ^ length opens)) as (λ l. below (2 ^ length opens) ≡ l → (set : ℕ) × List·Memᴰ set (deficientSets opens)) [
+    | [] ↦ λ e. absurd (List·Memᴰ·not-nil (rw e at (below-into (2 ^ length opens) (pow-pos (length opens)))))
+    | x ∷ l ↦ λ e.
+        let r = greatest-some (shortBy opens) x l in
+        let inside : List·Memᴰ (r .0) (below (2 ^ length opens)) = rw e (r .1) in
+        (r .0, into-deficient (r .0) (below-from (2 ^ length opens) inside, rw e (r .2)))
+  ] refl
 
   -- the deficient set is one of them, and none is smaller
   deficient-found : List·Memᴰ (deficientSet opens) (deficientSets opens) × (ones (deficientSet opens) ≡ least (map ones (deficientSets opens)))

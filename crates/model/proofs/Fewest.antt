@@ -1,10 +1,10 @@
 -- The plans with the fewest callouts. Assumes nothing.
-use mathlib.Core.Path.{_≡_, refl, sym, ap, _∙_, subst}
+use mathlib.Core.Path.{_≡_, refl, subst, subst⁻¹}
 use mathlib.Core.Bool.{Bool}
-use mathlib.Core.List.{List, [], _∷_, map, List·Memᴰ, List·Memᴰ·head, List·Memᴰ·not-nil}
+use mathlib.Core.List.{List, [], _∷_, List·Memᴰ, List·Memᴰ·head, List·Memᴰ·not-nil}
 use Prim.Native.Nat.{ℕ, _≤_}
 use lib.Dec.{T, eqb, eqb-refl, eqb→eq}
-use Rattle.model.specs.Lists.{least, Before, Chain}
+use Rattle.model.specs.Lists.{Before, Chain}
 use Rattle.model.specs.Plans.{plans}
 use Rattle.model.specs.Fewest.{calloutsOf, fewest, fewestPlans}
 use Rattle.model.proofs.Members.{keep-into, keep-from}
@@ -35,7 +35,7 @@ module _ (m : ℕ) (opens callouts : List ℕ) where
   module _ (p : List ℕ) (rest : List (List ℕ)) (e : fewestPlans m opens callouts ≡ p ∷ rest) where
     found : List·Memᴰ p (plans m opens) × T (test p)
     unfolding fewestPlans test
-    found = keep-from test (plans m opens) (subst (λ k. List·Memᴰ p k) (sym e) (List·Memᴰ·head refl))
+    found = keep-from test (plans m opens) (subst⁻¹ (List·Memᴰ p) e (List·Memᴰ·head refl))
 
     pub fewest-member : List·Memᴰ p (plans m opens)
     fewest-member = found .0
@@ -51,4 +51,4 @@ module _ (m : ℕ) (opens callouts : List ℕ) where
 
     pub fewest-into : (q : List ℕ) → List·Memᴰ q (plans m opens) → calloutsOf callouts q ≡ fewest m opens callouts → List·Memᴰ q (p ∷ rest)
     unfolding fewestPlans test
-    fewest-into q h n = subst (List·Memᴰ q) e (keep-into test (plans m opens) h (subst (λ k. T (eqb (calloutsOf callouts q) k)) n (eqb-refl (calloutsOf callouts q))))
+    fewest-into q h n = rw e at (keep-into test (plans m opens) h (rw (← n) (eqb-refl (calloutsOf callouts q))))

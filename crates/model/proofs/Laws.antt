@@ -15,9 +15,8 @@ use Rattle.model.specs.Lists.{keep, same, before, Before, Chain}
 use Rattle.model.specs.Rota.{tableCode}
 use Rattle.model.specs.Plans.{plans, isPlan, plansAfter, IsPlan}
 use Rattle.model.specs.Fewest.{calloutsOf, fewest, fewestPlans}
-use Rattle.model.specs.Count.{count}
 use Rattle.model.specs.PlanAnswers.{refused, noPlan, overCap, given, firstOf, firstFrom, nextOf, nextFrom, fewestOf, fewestFrom}
-use Rattle.model.proofs.Members.{is-true, is-false, same-refl, same-eq, keep-from, keep-into, any-into, any-from, place-of}
+use Rattle.model.proofs.Members.{is-true, is-false, same-refl, same-eq, keep-from, keep-into, any-into, any-from}
 use Rattle.model.proofs.Order.{chain-keep, least-is-head}
 use Rattle.model.proofs.Extremes.{least-is}
 use Rattle.model.proofs.Accepted.{accepted}
@@ -31,7 +30,7 @@ IsLeast opens p = (q : List ℕ) → IsPlan opens q → (q ≡ p) ⊎ Before p q
 pub callouts-le : (callouts p : List ℕ) → calloutsOf callouts p ≤ length callouts
 unfolding calloutsOf
 callouts-le callouts p =
-    let least = sum-le (λ i. bit (getD callouts i 0) (getD p i 0)) (λ i. 1) (length callouts) (λ i h. omega (arith, bit-lt (getD callouts i 0) (getD p i 0))) in
+    let most = sum-le (λ i. bit (getD callouts i 0) (getD p i 0)) (λ i. 1) (length callouts) (λ i h. omega (arith, bit-lt (getD callouts i 0) (getD p i 0))) in
     omega (arith, sum-const 1 (length callouts))
 
 pub after-rise : (m : ℕ) (opens g : List ℕ) → Chain Before (plansAfter m opens g)

@@ -4,7 +4,7 @@ use mathlib.Core.Logic.{_⊎_, inl, inr, ⊎-elim}
 use mathlib.Core.Bool.{Bool, true, false, not, cond, _&&_}
 use mathlib.Core.List.{List, [], _∷_, _++_, map, flatMap, List·Memᴰ, List·Memᴰ·head, List·Memᴰ·tail, List·Memᴰ·not-nil, List·Memᴰ·cases-cons}
 use mathlib.Core.List.{List·Memᴰ·append-cases, Memᴰ·of-map}
-use Prim.Native.Nat.{ℕ, zero, suc, _+_, _<_}
+use Prim.Native.Nat.{ℕ, zero, suc, _<_}
 use native.Mathlib.Nat.{suc-inj}
 use native.Mathlib.Omega.{arith}
 use native.Mathlib.Decide.{decLt}
@@ -160,11 +160,13 @@ unfolding arrangements
 arrangements-rise zero slots c = (λ y h. absurd (List·Memᴰ·not-nil h), tt)
 arrangements-rise (suc k) slots c =
     chain-flatMap _<_ Before (λ s. map (s ∷_) (arrangements k (remove s slots))) slots c
-    (λ s. chain-map Before Before (s ∷_) (arrangements k (remove s slots)) (λ p q a b h. before-tail s s p q refl h) (arrangements-rise k (remove s slots) (chain-remove s slots c)))
+    (λ s.
+    chain-map Before Before (s ∷_) (arrangements k (remove s slots)) (λ p q a b h. before-tail s s p q refl h)
+    (arrangements-rise k (remove s slots) (chain-remove s slots c)))
     (λ s t p q h a b.
     let r = Memᴰ·of-map (s ∷_) (arrangements k (remove s slots)) a in
     let u = Memᴰ·of-map (t ∷_) (arrangements k (remove t slots)) b in
-    subst (λ x. Before x q) (r .2) (subst (Before (s ∷ r .0)) (u .2) (before-head s t (r .0) (u .0) h)))
+    rw (← r .2, ← u .2) (before-head s t (r .0) (u .0) h))
 
 -- two lists in rising order with the same members are the same
 pub rising-same : (l m : List (List ℕ)) → Rising l → Rising m → ((z : List ℕ) → List·Memᴰ z l → List·Memᴰ z m)

@@ -5,7 +5,6 @@ use mathlib.Core.List.{List, _++_}
 use Prim.Native.Nat.{ℕ, zero, suc, _^_, _≤_, _<_}
 use native.Mathlib.Omega.{arith}
 use borrow.Author.Tests.{lt-ltb, le-ltb, ltb-false, eqb-false}
-use lib.Dec.{eqb, ltb}
 use lib.ListN.{length, drop}
 use Rattle.model.specs.Refusal.{orElse, unless, written, sizeCode, tallyCode, fleetCode, roomCode}
 use Rattle.model.proofs.Members.{neither}
@@ -59,7 +58,7 @@ pub tally-passed : (m words : ℕ) → tallyCode m words ≡ 0 → 2 ^ m ≤ wor
 tally-passed m words e = ltb-false words (2 ^ m) (passed _ 5 0 e .0)
 
 pub fleet-passed : (vehicles : ℕ) → fleetCode vehicles ≡ 0 → (vehicles ≢ 0) × (vehicles ≤ 10000)
-fleet-passed vehicles e = let b = neither (eqb vehicles 0) (ltb 10000 vehicles) (passed _ 6 0 e .0) in (eqb-false vehicles 0 (b .0), ltb-false 10000 vehicles (b .1))
+fleet-passed vehicles e = let b = neither _ _ (passed _ 6 0 e .0) in (eqb-false vehicles 0 (b .0), ltb-false 10000 vehicles (b .1))
 
 -- ---- a refused call, by its number
 

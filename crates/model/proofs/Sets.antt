@@ -1,18 +1,18 @@
 -- Members and unions of words. Assumes nothing.
 use mathlib.Core.Path.{_≡_, refl, sym, ap, ap₂, _∙_, subst}
-use mathlib.Core.Logic.{_≢_, _⊎_, inl, inr, ⊎-elim}
+use mathlib.Core.Logic.{_≢_, inl, inr}
 use mathlib.Core.Bool.{Bool, true, false, cond}
 use mathlib.Core.List.{List, [], _∷_, map, List·Memᴰ, List·Memᴰ·head, List·Memᴰ·tail, List·Memᴰ·not-nil, List·Memᴰ·cases-cons, Memᴰ·map, Memᴰ·of-map}
 use Prim.Native.Nat.{ℕ, _+_, _^_, _<_, _≤_, max}
 use native.Mathlib.Nat.{le-antisymm}
 use native.Mathlib.Omega.{arith}
 use native.Mathlib.Decide.{ℕ-discrete}
-use lib.Bits.{bitOr, or-lt}
+use lib.Bits.{or-lt}
 use lib.Count.{ones}
 use lib.ListN.{length}
 use lib.Pow.{pow-pos, pow-lt}
 use Rattle.words.specs.Word.{bit, has, without}
-use Rattle.words.specs.Sum.{below, total, sum}
+use Rattle.words.specs.Sum.{below, total}
 use Rattle.words.proofs.Bits.{bit-lt, bit-cases, bit-one, bit-none, has-in, has-bit, bit-empty, bit-or, bit-single, bit-single-other, bit-without-other}
 use Rattle.words.proofs.Bits.{at-slot}
 use Rattle.words.proofs.Sums.{below-from, below-into, sum-injection}
@@ -140,7 +140,8 @@ image-pick f n set k h b j =
       | no d ↦ omega (arith, image-into f n (without set k) (r .0) (r .1) (bit-without-other set k (r .0) d ∙ r .2), ap (bit less) (r .3))
     ] in
     let single : bit (2 ^ f k) j ≤ bit whole j =
-    at-slot (λ i. bit (2 ^ f k) i ≤ bit whole i) (f k) (omega (arith, bit-single (f k), image-into f n set k h b)) (λ i d. omega (arith, bit-single-other (f k) i d)) j in
+    at-slot (λ i. bit (2 ^ f k) i ≤ bit whole i) (f k) (omega (arith, bit-single (f k), image-into f n set k h b))
+    (λ i d. omega (arith, bit-single-other (f k) i d)) j in
     let rest : bit less j ≤ bit whole j = elim (bit-cases less j) [
       | inl z ↦ omega arith
       | inr o ↦
