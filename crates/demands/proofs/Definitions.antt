@@ -14,7 +14,7 @@ use lib.Seq.{drop-at}
 use lib.Dec.{leb}
 use Rattle.words.specs.Word.{bit}
 use Rattle.words.proofs.Sums.{map-below, length-map-below}
-use Rattle.model.specs.Lists.{before, Before, Chain, same}
+use Rattle.model.specs.Lists.{Before, Chain}
 use Rattle.model.specs.Refusal.{written}
 use Rattle.model.specs.Rota.{tableCode}
 use Rattle.model.specs.Plans.{plans, plansAfter, IsPlan, isPlan}
@@ -24,11 +24,9 @@ use Rattle.model.specs.Allowed.{allowedWords}
 use Rattle.model.specs.Count.{subsetCount, subsetCounts, count}
 use Rattle.model.specs.PlanAnswers.{given, refused, overCap, noPlan, firstOf, firstFrom, nextOf, nextFrom, fewestOf, fewestFrom}
 use Rattle.model.specs.PriceAnswers.{gradeBy, priceBy}
-use Rattle.model.proofs.Members.{keep-from, keep-into, is-true, any-from, same-eq}
-use Rattle.model.proofs.Order.{chain-keep}
 use Rattle.model.proofs.Accepted.{tables-from}
 use Rattle.model.proofs.Plans.{plans-rise, plan-from, plan-into}
-use Rattle.model.proofs.Laws.{few, range, is-plan}
+use Rattle.model.proofs.Laws.{few, range, is-plan, is-so, after-rise, after-from, after-into}
 use Rattle.model.proofs.Deficiency.{deficiency-bound, deficient-greatest, deficient-within}
 use Rattle.model.proofs.Allowed.{length-allowed, allowed-at, allowed-into, allowed-from}
 use Rattle.model.proofs.Fewest.{fewest-le, fewest-member, fewest-number, fewest-before, fewest-into, fewest-empty}
@@ -53,22 +51,6 @@ module _ (n m : ℕ) (opens callouts : List ℕ) (ok : tableCode n m opens callo
   into : (p : List ℕ) → IsPlan opens p → List·Memᴰ p (plans m opens)
   into = plan-into m opens F R
 
-  is-so : (g : List ℕ) → isPlan m opens g ≡ true → IsPlan opens g
-  unfolding isPlan
-  is-so g e = let r = any-from (same g) (plans m opens) (rw e tt) in from g (rw (same-eq g (r .0) (is-true _ (r .2))) (r .1))
-
-  after-from : (g p : List ℕ) → List·Memᴰ p (plansAfter m opens g) → IsPlan opens p × Before g p
-  unfolding plansAfter
-  after-from g p h = let r = keep-from (before g) (plans m opens) h in (from p (r .0), r .1)
-
-  after-into : (g p : List ℕ) → IsPlan opens p → Before g p → List·Memᴰ p (plansAfter m opens g)
-  unfolding plansAfter
-  after-into g p P b = keep-into (before g) (plans m opens) (into p P) b
-
-  after-rise : (m : ℕ) (opens g : List ℕ) → Chain Before (plansAfter m opens g)
-  unfolding plansAfter
-  after-rise m opens g = chain-keep Before (before g) (plans m opens) (plans-rise m opens)
-
   -- ---- the first plan, and 9
 
   pub first-is : (p : List ℕ) (l : List (List ℕ)) → plans m opens ≡ p ∷ l → IsFirst opens p
@@ -81,11 +63,10 @@ module _ (n m : ℕ) (opens callouts : List ℕ) (ok : tableCode n m opens callo
   found-9 : (number : List (List ℕ) → ℕ) → number [] ≡ 9 → ((p : List ℕ) (l : List (List ℕ)) → number (p ∷ l) ≡ 0)
       → FirstOf (test9 opens ∷ []) (number (plans m opens))
   unfolding FirstOf
-  found-9 number e f = go (plans m opens) refl
-    where
-      go : (l : List (List ℕ)) → plans m opens ≡ l → FirstOf (test9 opens ∷ []) (number l)
-      go [] q = inl (none q, e)
-      go (p ∷ l) q = inr (λ h. h p (first-is p l q .plan), f p l)
+  found-9 number e f = elim (plans m opens) as (λ l. plans m opens ≡ l → FirstOf (test9 opens ∷ []) (number l)) [
+    | [] ↦ λ q. inl (none q, e)
+    | p ∷ l ↦ λ q. inr (λ h. h p (first-is p l q .plan), f p l)
+  ] refl
 
   pub first-tests : FirstOf (test9 opens ∷ []) (firstFrom m opens .code)
   unfolding firstFrom firstOf noPlan
@@ -113,24 +94,23 @@ module _ (n m : ℕ) (opens callouts : List ℕ) (ok : tableCode n m opens callo
 
   pub next-is : (g p : List ℕ) (l : List (List ℕ)) → plansAfter m opens g ≡ p ∷ l → IsNext opens g p
   next-is g p l e =
-      let r = after-from g p (rw e (List·Memᴰ·head refl)) in
-      record { plan = r .0; after = r .1; least = λ q Q b. head-least p l (rw e at (after-rise m opens g)) q (rw e at (after-into g q Q b)) }
+      let r = after-from m opens F R g p (rw e (List·Memᴰ·head refl)) in
+      record { plan = r .0; after = r .1; least = λ q Q b. head-least p l (rw e at (after-rise m opens g)) q (rw e at (after-into m opens F R g q Q b)) }
 
   follows : (g : List ℕ) → FirstOf (test10 opens g ∷ []) (nextOf (plansAfter m opens g) .code)
   unfolding FirstOf nextOf
-  follows g = go (plansAfter m opens g) refl
-    where
-      go : (l : List (List ℕ)) → plansAfter m opens g ≡ l → FirstOf (test10 opens g ∷ []) (nextOf l .code)
-      go [] e = inl (λ p P b. List·Memᴰ·not-nil (rw e at (after-into g p P b)), refl)
-      go (p ∷ l) e = inr (λ f. f p (next-is g p l e .plan) (next-is g p l e .after), refl)
+  follows g = elim (plansAfter m opens g) as (λ l. plansAfter m opens g ≡ l → FirstOf (test10 opens g ∷ []) (nextOf l .code)) [
+    | [] ↦ λ e. inl (λ p P b. List·Memᴰ·not-nil (rw e at (after-into m opens F R g p P b)), refl)
+    | p ∷ l ↦ λ e. inr (λ f. f p (next-is g p l e .plan) (next-is g p l e .after), refl)
+  ] refl
 
   pub next-tests : (g : List ℕ) → FirstOf (test8 opens g ∷ test10 opens g ∷ []) (nextFrom m opens g .code)
   unfolding FirstOf nextFrom
-  next-tests g = go (isPlan m opens g) refl
-    where
-      go : (b : Bool) → isPlan m opens g ≡ b → FirstOf (test8 opens g ∷ test10 opens g ∷ []) (cond b (nextOf (plansAfter m opens g)) (refused 8) .code)
-      go true e = inr (λ f. f (is-so g e), follows g)
-      go false e = inl (λ P. false≢true (sym e ∙ is-plan m opens F R g P), refl)
+  next-tests g = elim (isPlan m opens g) as (λ b. isPlan m opens g ≡ b
+      → FirstOf (test8 opens g ∷ test10 opens g ∷ []) (cond b (nextOf (plansAfter m opens g)) (refused 8) .code)) [
+        | true ↦ λ e. inr (λ f. f (is-so m opens F R g e), follows g)
+        | false ↦ λ e. inl (λ P. false≢true (sym e ∙ is-plan m opens F R g P), refl)
+      ] refl
 
   -- ---- the fewest callouts, 9 and 11
 
@@ -150,19 +130,22 @@ module _ (n m : ℕ) (opens callouts : List ℕ) (ok : tableCode n m opens callo
 
   pub fewest-tests : (cap : ℕ) → FirstOf (test9 opens ∷ test11 opens callouts cap ∷ []) (fewestFrom m opens callouts cap .code)
   unfolding FirstOf fewestFrom fewestOf noPlan
-  fewest-tests cap = go (fewestPlans m opens callouts) refl
-    where
-      number : ℕ
-      number = fewest m opens callouts
-
-      capped : (p : List ℕ) → IsFewestPlan opens callouts p number → (b : Bool) → leb number cap ≡ b
-          → FirstOf (test11 opens callouts cap ∷ []) (cond b (given p number) (overCap number) .code)
-      capped p f true h = inr (λ x. omega (arith, x p (f .plan), f .called-out, leb-true number cap h), refl)
-      capped p f false h = inl (λ q Q. omega (arith, f .fewest q Q, leb-false number cap h), refl)
-
-      go : (l : List (List ℕ)) → fewestPlans m opens callouts ≡ l → FirstOf (test9 opens ∷ test11 opens callouts cap ∷ []) (fewestOf opens cap number l .code)
-      go [] e = inl (none (fewest-empty m opens callouts e), refl)
-      go (p ∷ l) e = inr (λ f. f p (fewest-is p l e .plan), capped p (fewest-is p l e) (leb number cap) refl)
+  fewest-tests cap =
+      let number = fewest m opens callouts in
+      elim (fewestPlans m opens callouts) as (λ l. fewestPlans m opens callouts ≡ l
+      → FirstOf (test9 opens ∷ test11 opens callouts cap ∷ []) (fewestOf opens cap number l .code)) [
+        | [] ↦ λ e. inl (none (fewest-empty m opens callouts e), refl)
+        | p ∷ l ↦ λ e.
+            let f = fewest-is p l e in
+            inr (
+              λ x. x p (f .plan),
+              elim (leb number cap) as (λ b. leb number cap ≡ b
+                  → FirstOf (test11 opens callouts cap ∷ []) (cond b (given p number) (overCap number) .code)) [
+                    | true ↦ λ h. inr (λ x. omega (arith, x p (f .plan), f .called-out, leb-true number cap h), refl)
+                    | false ↦ λ h. inl (λ q Q. omega (arith, f .fewest q Q, leb-false number cap h), refl)
+                  ] refl,
+            )
+      ] refl
 
   -- ---- the usable table
 

@@ -7,6 +7,7 @@ use Prim.Native.Nat.{ℕ, zero, suc, _*_, _^_}
 use lib.ListN.{length, take}
 use Rattle.model.specs.declared.Plan.{Plan}
 use Rattle.model.specs.declared.PlanAnswer.{PlanAnswer}
+use Rattle.model.specs.declared.CountAnswer.{CountAnswer}
 use Rattle.model.specs.declared.ReadAnswer.{ReadAnswer}
 use Rattle.model.specs.declared.WriteAnswer.{WriteAnswer}
 use Rattle.model.specs.Refusal.{orElse, unless, written, roomCode}
@@ -16,7 +17,7 @@ use Rattle.model.specs.declared.Edition.{Edition}
 use Rattle.model.specs.File.{blocksFor, fileCode, itemsIn, slotsIn, opensIn, calloutsIn}
 use Rattle.model.specs.PlanAnswers.{firstAnswer, nextAnswer, fewestAnswer}
 use Rattle.model.specs.Lister.{listerAnswer, listerAfter}
-use Rattle.model.specs.UsableAnswers.{usableCode, usableAfter}
+use Rattle.model.specs.UsableAnswers.{usableAfter}
 use Rattle.model.specs.CountAnswers.{countRefused, countCode, countAnswer, countTally}
 use Rattle.model.specs.PriceAnswers.{gradeAnswer, gradeTally, priceCode, priceAnswer, priceTally}
 use Rattle.model.specs.FileAnswers.{readRefused, readCode, readAnswer, readOpens, readCallouts, writeRefused, writeCode, writeAnswer, writeFile, planFileCode}
@@ -112,12 +113,9 @@ module _ (file : List ℕ) where
 
 zero-count : (n : ℕ) (opens callouts : List ℕ) (words : ℕ) → countAnswer n n opens callouts words .code ≢ 0 → countAnswer n n opens callouts words .count ≡ 0
 unfolding countAnswer unless
-zero-count n opens callouts words = go (countCode n n opens callouts words)
-  where
-    go : (c : ℕ) → unless countRefused c (record { code = 0; count = count n opens }) .code ≢ 0
-        → unless countRefused c (record { code = 0; count = count n opens }) .count ≡ 0
-    go zero d = absurd (d refl)
-    go (suc c) d = refl
+zero-count n opens callouts words =
+    let answer : ℕ → CountAnswer = λ c. unless countRefused c (record { code = 0; count = count n opens }) in
+    elim (countCode n n opens callouts words) as (λ c. answer c .code ≢ 0 → answer c .count ≡ 0) [ zero ↦ λ d. absurd (d refl) | suc c ↦ λ d. refl ]
 
 module _ (n : ℕ) (opens callouts : List ℕ) where
   module _ (words : ℕ) where
