@@ -3,13 +3,13 @@
 use mathlib.Core.Path.{_≡_, sym, ap, _∙_, subst}
 use mathlib.Core.Logic.{_≢_}
 use mathlib.Core.List.{List}
-use Prim.Native.Nat.{ℕ, _<_}
+use Prim.Native.Nat.{ℕ, _≤_, _<_}
 use native.Mathlib.Decide.{ℕ-discrete}
 use native.Mathlib.Omega.{arith}
 use lib.ListN.{length, set, length-set}
 use lib.Seq.{getD-set-same, getD-set-other}
 use Rattle.words.specs.Word.{bit, with, without}
-use Rattle.words.proofs.Bits.{bit-with, bit-with-other, bit-without, bit-without-other}
+use Rattle.words.proofs.Bits.{bit-lt, at-slot, bit-with, bit-with-other, bit-without, bit-without-other}
 use Rattle.words.proofs.SetLaws.{bit-with-le}
 use Rattle.augment.specs.Table.{own, at, cell, Table, Matched, Exposed}
 
@@ -20,6 +20,10 @@ same-or {A} k l f g = go (ℕ-discrete k l)
     go : Dec (k ≡ l) → A
     go (yes e) = f e
     go (no d) = g d
+
+-- a bound of a bit that is 1 is one of the bit
+pub bit-le : (a k b : ℕ) → (bit a k ≡ 1 → 1 ≤ b) → bit a k ≤ b
+bit-le a k b f = same-or (bit a k) 1 (λ e. omega (arith, f e)) (λ d. omega (arith, bit-lt a k))
 
 -- slot k is free now
 pub record Released (w o p : List ℕ) (f k : ℕ) : Type 0 where
@@ -63,61 +67,42 @@ module _ {w o p : List ℕ} {f : ℕ} (T : Table w o p f) where
         new = λ x M. record { slot = M .slot; held = still (at p x) (M .held); owns = M .owns };
       }
 
-  module _ (y h : ℕ) (known : y < length w) (E : Exposed o p f y) (g : h < 64) (b : bit f h ≡ 1) (may : cell w y h ≡ 1) where
-    abbrev o₁ : List ℕ
-    o₁ = set o h y
-
-    abbrev p₁ : List ℕ
-    p₁ = set p y h
-
-    own-h : own o₁ h ≡ y
-    own-h = getD-set-same o h y 0 (omega (arith, T .owners))
-
-    at-y : at p₁ y ≡ h
-    at-y = getD-set-same p y h 0 (omega (arith, T .slots, T .few))
-
-    own-other : (l : ℕ) → l ≢ h → own o₁ l ≡ own o l
-    own-other l d = getD-set-other o h l y 0 d
-
-    at-other : (x : ℕ) → x ≢ y → at p₁ x ≡ at p x
-    at-other x d = getD-set-other p y x h 0 d
-
-    -- a slot that is held afterwards is h, or was held before by another item
-    by : {A : ℕ → Type 0} → A h → ((l : ℕ) → l < 64 → l ≢ h → bit f l ≡ 0 → A l) → (l : ℕ) → l < 64 → bit (without f h) l ≡ 0 → A l
-    by {A} a c l i e = same-or l h (λ q. subst A (sym q) a) (λ d. c l i d (sym (bit-without-other f h l d) ∙ e))
-
-    pub take : Taken w o p f y h
-    take =
-        record {
-          table = record {
-            few = T .few;
-            range = T .range;
-            owners = length-set o h y ∙ T .owners;
-            slots = length-set p y h ∙ T .slots;
-            item = by {A = λ l. own o₁ l < length w} (omega (arith, own-h)) (λ l i d e. omega (arith, own-other l d, T .item l i e));
-            open-cell = by {A = λ l. cell w (own o₁ l) l ≡ 1} (ap (λ x. cell w x h) own-h ∙ may)
-                (λ l i d e. ap (λ x. cell w x l) (own-other l d) ∙ T .open-cell l i e);
-            back = by {A = λ l. at p₁ (own o₁ l) ≡ l} (ap (at p₁) own-h ∙ at-y)
-                (λ l i d e. ap (at p₁) (own-other l d) ∙ at-other (own o l) (exposed-other y E l i e) ∙ T .back l i e);
-            zeros = λ x i j. at-other x (λ e. omega arith) ∙ T .zeros x i j;
-          };
-          slot = at-y;
-          holds = record { slot = omega (arith, at-y); held = ap (bit (without f h)) at-y ∙ bit-without f h; owns = ap (own o₁) at-y ∙ own-h };
-          kept = λ l d. (bit-without-other f h l d, own-other l d);
-          stay = λ x M.
-              let e = at-other x (λ q. E (subst (Matched o p f) q M)) in
-              let s : at p x ≢ h = λ q. omega (arith, M .held, ap (bit f) q) in
-              record {
-                slot = omega (arith, e, M .slot);
-                held = ap (bit (without f h)) e ∙ bit-without-other f h (at p x) s ∙ M .held;
-                owns = ap (own o₁) e ∙ own-other (at p x) s ∙ M .owns;
-              };
-          new = λ x d M.
-              let e = at-other x d in
-              let s : at p x ≢ h = λ q. d (sym (M .owns) ∙ ap (own o₁) (e ∙ q) ∙ own-h) in
-              record {
-                slot = omega (arith, e, M .slot);
-                held = sym (bit-without-other f h (at p x) s) ∙ ap (bit (without f h)) (sym e) ∙ M .held;
-                owns = sym (own-other (at p x) s) ∙ ap (own o₁) (sym e) ∙ M .owns;
-              };
-        }
+  pub take : (y h : ℕ) → y < length w → Exposed o p f y → h < 64 → bit f h ≡ 1 → cell w y h ≡ 1 → Taken w o p f y h
+  take y h known E g b may =
+      let o₁ = set o h y in
+      let p₁ = set p y h in
+      let f₁ = without f h in
+      let own-h : own o₁ h ≡ y = getD-set-same o h y 0 (omega (arith, T .owners)) in
+      let at-y : at p₁ y ≡ h = getD-set-same p y h 0 (omega (arith, T .slots, T .few)) in
+      let own-other : (l : ℕ) → l ≢ h → own o₁ l ≡ own o l = λ l d. getD-set-other o h l y 0 d in
+      let at-other : (x : ℕ) → x ≢ y → at p₁ x ≡ at p x = λ x d. getD-set-other p y x h 0 d in
+      -- a slot that is held afterwards is h, or was held before
+      let by : (A : ℕ → Type 0) → A h → ((l : ℕ) → l < 64 → l ≢ h → bit f l ≡ 0 → A l) → (l : ℕ) → l < 64 → bit f₁ l ≡ 0 → A l =
+      λ A a c. at-slot (λ l. l < 64 → bit f₁ l ≡ 0 → A l) h (λ i e. a) (λ l d i e. c l i d (sym (bit-without-other f h l d) ∙ e)) in
+      record {
+        table = record {
+          few = T .few;
+          range = T .range;
+          owners = length-set o h y ∙ T .owners;
+          slots = length-set p y h ∙ T .slots;
+          item = by (λ l. own o₁ l < length w) (omega (arith, own-h)) (λ l i d e. omega (arith, own-other l d, T .item l i e));
+          open-cell = by (λ l. cell w (own o₁ l) l ≡ 1) (ap (λ x. cell w x h) own-h ∙ may)
+              (λ l i d e. ap (λ x. cell w x l) (own-other l d) ∙ T .open-cell l i e);
+          back = by (λ l. at p₁ (own o₁ l) ≡ l) (ap (at p₁) own-h ∙ at-y)
+              (λ l i d e. ap (at p₁) (own-other l d) ∙ at-other (own o l) (exposed-other y E l i e) ∙ T .back l i e);
+          zeros = λ x i j. at-other x (λ e. omega arith) ∙ T .zeros x i j;
+        };
+        slot = at-y;
+        holds = record { slot = omega (arith, at-y); held = ap (bit f₁) at-y ∙ bit-without f h; owns = ap (own o₁) at-y ∙ own-h };
+        kept = λ l d. (bit-without-other f h l d, own-other l d);
+        stay = λ x M.
+            let e = at-other x (λ q. E (subst (Matched o p f) q M)) in
+            let s : at p x ≢ h = λ q. omega (arith, M .held, ap (bit f) q) in
+            let held = ap (bit f₁) e ∙ bit-without-other f h (at p x) s ∙ M .held in
+            record { slot = omega (arith, e, M .slot); held = held; owns = ap (own o₁) e ∙ own-other (at p x) s ∙ M .owns };
+        new = λ x d M.
+            let e = at-other x d in
+            let s : at p x ≢ h = λ q. d (sym (M .owns) ∙ ap (own o₁) (e ∙ q) ∙ own-h) in
+            let held = sym (bit-without-other f h (at p x) s) ∙ ap (bit f₁) (sym e) ∙ M .held in
+            record { slot = omega (arith, e, M .slot); held = held; owns = sym (own-other (at p x) s) ∙ ap (own o₁) (sym e) ∙ M .owns };
+      }

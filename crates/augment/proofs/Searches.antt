@@ -13,7 +13,7 @@ use Rattle.words.proofs.SetLaws.{bit-with-le, minus-le, ones-proper, lowest-lt,
 use Rattle.augment.specs.Table.{own, cell, Table, Matched, Owners, span}
 use Rattle.augment.specs.Search.{Movable, Mover, Relocatable, Relocated, Vacatable, Vacated, Certificate, Assignable, Assigned, Barred}
 use Rattle.augment.proofs.Spans.{span-into, span-from, span-lt}
-use Rattle.augment.proofs.Moves.{same-or, holder-matched, release, take}
+use Rattle.augment.proofs.Moves.{same-or, bit-le, holder-matched, release, take}
 
 -- the lowest slot of two words' common slots
 pub record Common (a b h : ℕ) : Type 0 where
@@ -170,15 +170,17 @@ module _ {w o p : List ℕ} {f set′ seen : ℕ} (Z : Vacatable w o p f set′ 
                   (λ d. C .shut k h b (omega (arith, seen′ k h, in-layer k h, bit-lt seen k, bit-lt reach k)));
               least = λ g s c.
                   C .least g
-                  (λ k h. same-or (bit layer k) 1
-                  (λ e.
-                  let r = from k (omega (arith, in-layer k h, bit-lt reach k)) in
-                  let j = r .0 in
-                  let i = in-seen j (r .1) (r .2) in
-                  let in-t : bit t j ≡ 1 = omega (arith, C .more j (r .1), bit-or seen layer j, bit-lt t j) in
-                  let m = c j (r .1) (omega (arith, s j (r .1), bit-lt g j)) in-t (omega (arith, i, r .2)) k h in
-                  omega (arith, bit-or seen layer k, m, r .3, bit-lt seen k))
-                  (λ d. omega (arith, bit-or seen layer k, s k h, bit-lt layer k)))
+                  (λ k h. omega (
+                    arith,
+                    bit-or seen layer k,
+                    s k h,
+                    bit-le layer k (bit g k) (λ e.
+                        let r = from k (omega (arith, in-layer k h, bit-lt reach k)) in
+                        let j = r .0 in
+                        let i = in-seen j (r .1) (r .2) in
+                        let in-t : bit t j ≡ 1 = omega (arith, C .more j (r .1), bit-or seen layer j, bit-lt t j) in
+                        omega (arith, c j (r .1) (omega (arith, s j (r .1), bit-lt g j)) in-t (omega (arith, i, r .2)) k h, r .3)),
+                  ))
                   (λ k h b e m. c k h b e (omega (arith, seen′ k h, in-layer k h, bit-lt seen k, bit-lt reach k)));
             };
             relocatable = λ {o₁} {p₁} {f₁} {j} U.

@@ -82,7 +82,8 @@ pub record GrowthStep (w o : List ℕ) (f rest path set out : ℕ) (a : List ℕ
   pub held : bit f k ≡ 0
   pub fewer : unseen left (bitOr path all) (2 ^ k) < unseen rest path set
   pub growing : Growing w o f a left (bitOr path all) (2 ^ k) (getD w (own o k) 0)
-  pub less : {a′ : List ℕ} {left′ set′ out′ : ℕ} → GrownFrom w o f left path all k a′ left′ set′ out′ → unseen left′ path (bitOr all set′) < unseen left path all
+  pub less : {a′ : List ℕ} {left′ set′ out′ : ℕ} → GrownFrom w o f left path all k a′ left′ set′ out′
+      → unseen left′ path (bitOr all set′) < unseen left path all
   pub again : {a′ : List ℕ} {left′ set′ out′ next′ : ℕ} → GrownFrom w o f left path all k a′ left′ set′ out′ → left′ < 2 ^ 64 → set′ < 2 ^ 64
       → next′ ≡ minus (bitAnd left′ (bitOr reach out′)) (bitOr all set′)
       → GrowthTurns w o f rest path set out a′ left′ (bitOr all set′) (bitOr reach out′) next′

@@ -1,9 +1,9 @@
 -- A maximum matching gives the deficiency: the exposed items and the holders of the dead slots are the one smallest set of
 -- greatest shortage, and it is short by the number of exposed items (Hall, König). Assumes nothing.
-use mathlib.Core.Path.{_≡_, refl, sym, ap, ap₂, _∙_, subst}
+use mathlib.Core.Path.{_≡_, refl, sym, ap, ap₂, _∙_}
 use mathlib.Core.Logic.{_≢_}
 use mathlib.Core.List.{List}
-use Prim.Native.Nat.{ℕ, _+_, _-_, _^_, _≤_, _<_}
+use Prim.Native.Nat.{ℕ, _+_, _^_, _≤_, _<_}
 use native.Mathlib.Nat.{le-antisymm, lt-of-lt-of-le}
 use native.Mathlib.Omega.{arith}
 use lib.Bits.{bitAnd, bitOr, and-lt, or-lt}
@@ -21,7 +21,7 @@ use Rattle.model.proofs.Sets.{image-into, image-from, image-lt, ones-image}
 use Rattle.model.proofs.Deficiency.{neighbours-into, neighbours-from, neighbours-lt, plan-none-short, deficiency-by, deficient-set-by}
 use Rattle.augment.specs.Table.{own, at, cell, Matched, Complete}
 use Rattle.augment.specs.Search.{Within}
-use Rattle.augment.proofs.Moves.{same-or, once, exposed-other}
+use Rattle.augment.proofs.Moves.{same-or, bit-le, once, exposed-other}
 use Rattle.maximum.specs.Maximum.{Filled, holders, deficientBy}
 
 module _ (w o p : List ℕ) (f e d : ℕ) (F : Filled w o p f e d) where
@@ -49,6 +49,9 @@ module _ (w o p : List ℕ) (f e d : ℕ) (F : Filled w o p f e d) where
   unfolding holders
   holders-from x b = image-from (own o) 64 d x b
 
+  holders-le : (x b : ℕ) → ((k : ℕ) → k < 64 → bit d k ≡ 1 → own o k ≡ x → 1 ≤ b) → bit y x ≤ b
+  holders-le x b c = bit-le y x b (λ e. let r = holders-from x e in c (r .0) (r .1) (r .2) (r .3))
+
   holders-ones : ones y ≡ ones d
   unfolding holders
   holders-ones = ones-image (own o) 64 d n (at p) (F .dead .fits) holds (λ k h b. F .table .back k h (F .dead .held k h b))
@@ -58,11 +61,8 @@ module _ (w o p : List ℕ) (f e d : ℕ) (F : Filled w o p f e d) where
 
   -- an exposed item holds no dead slot
   apart : (x : ℕ) → bit e x + bit y x ≤ 1
-  apart x = same-or (bit y x) 1
-      (λ b.
-      let r = holders-from x b in
-      let z : bit e x ≢ 1 = λ c. exposed-other (F .table) x (F .exposed x c) (r .0) (r .1) (F .dead .held (r .0) (r .1) (r .2)) (r .3) in
-      omega (arith, bit-lt e x))
+  apart x = same-or (bit e x) 1
+      (λ c. omega (arith, holders-le x 0 (λ k h b q. absurd (exposed-other (F .table) x (F .exposed x c) k h (F .dead .held k h b) q))))
       (λ m. omega (arith, bit-lt e x, bit-lt y x))
 
   pub deficient-ones : ones deficient ≡ ones e + ones d
@@ -70,11 +70,8 @@ module _ (w o p : List ℕ) (f e d : ℕ) (F : Filled w o p f e d) where
       let none : bitAnd e y ≡ 0 = empty n (bitAnd e y) (and-lt n e y (F .items) holders-lt) (λ x l. omega (arith, bit-and e y x, apart x)) in
       omega (arith, ones-or-and n e y (F .items) holders-lt, ap ones none, ones-le 0 0 (pow-pos 0), holders-ones)
 
-  range : (x : ℕ) → x < n → getD w x 0 < 2 ^ 64
-  range = F .table .range
-
   near-lt : (set : ℕ) → neighbours w set < 2 ^ 64
-  near-lt = neighbours-lt w 64 range
+  near-lt = neighbours-lt w 64 (F .table .range)
 
   -- all slots open to its items are dead
   pub deficient-shut : (x : ℕ) → x < n → bit deficient x ≡ 1 → Within (getD w x 0) d
@@ -85,9 +82,8 @@ module _ (w o p : List ℕ) (f e d : ℕ) (F : Filled w o p f e d) where
       omega (arith, ap (λ x. cell w x k) (q .3), F .dead .shut (q .0) (q .1) (q .2) k g))
 
   near-deficient : Within (neighbours w deficient) d
-  near-deficient k h = same-or (bit (neighbours w deficient) k) 1
+  near-deficient k h = bit-le (neighbours w deficient) k (bit d k)
       (λ b. let r = neighbours-from w deficient k b in omega (arith, r .3, deficient-shut (r .0) (r .1) (r .2) k h))
-      (λ m. omega (arith, bit-lt (neighbours w deficient) k))
 
   -- of the matched items it has the holders of the dead slots
   pub deficient-holder : (k : ℕ) → k < 64 → bit f k ≡ 0 → bit deficient (own o k) ≡ bit d k
@@ -95,14 +91,9 @@ module _ (w o p : List ℕ) (f e d : ℕ) (F : Filled w o p f e d) where
   deficient-holder k h b =
       let x = own o k in
       let none : bit e x ≢ 1 = λ c. exposed-other (F .table) x (F .exposed x c) k h b refl in
-      same-or (bit d k) 1
-      (λ c. omega (arith, bit-or e y x, bit-lt e x, image-into (own o) 64 d k h c))
-      (λ m. same-or (bit y x) 1
-      (λ c.
-      let r = holders-from x c in
-      let q = once (F .table) (r .0) k (r .1) h (F .dead .held (r .0) (r .1) (r .2)) b (r .3) in
-      absurd (omega (arith, r .2, ap (bit d) q)))
-      (λ c. omega (arith, bit-or e y x, bit-lt e x, bit-lt y x, bit-lt d k)))
+      let has = bit-le d k (bit y x) (λ c. omega (arith, image-into (own o) 64 d k h c)) in
+      let only = holders-le x (bit d k) (λ j g c q. omega (arith, c, ap (bit d) (once (F .table) j k g h (F .dead .held j g c) b q))) in
+      omega (arith, bit-or e y x, bit-lt e x, has, only)
 
   -- ---- any other set
 
@@ -127,21 +118,18 @@ module _ (w o p : List ℕ) (f e d : ℕ) (F : Filled w o p f e d) where
     seats = image (at p) n matched
 
     seats-ones : ones seats ≡ ones matched
-    seats-ones =
-        ones-image (at p) n matched 64 (own o) matched-lt (λ x h b. in-matched x h b .1 .slot) (λ x h b. in-matched x h b .1 .owns)
+    seats-ones = ones-image (at p) n matched 64 (own o) matched-lt (λ x h b. in-matched x h b .1 .slot) (λ x h b. in-matched x h b .1 .owns)
 
     seats-lt : seats < 2 ^ 64
     seats-lt = image-lt (at p) n matched 64 (λ x h b. in-matched x h b .1 .slot)
 
     seats-near : Within seats (neighbours w set)
-    seats-near k h = same-or (bit seats k) 1
+    seats-near k h = bit-le seats k (bit (neighbours w set) k)
         (λ b.
         let r = image-from (at p) n matched k b in
         let M = in-matched (r .0) (r .1) (r .2) in
-        let c = F .table .open-cell (at p (r .0)) (M .1 .slot) (M .1 .held) in
-        let c′ : cell w (r .0) k ≡ 1 = ap (cell w (r .0)) (sym (r .3)) ∙ ap (λ x. cell w x (at p (r .0))) (sym (M .1 .owns)) ∙ c in
-        omega (arith, neighbours-into w set (r .0) k (r .1) (M .0), bit-lt seats k))
-        (λ m. omega (arith, bit-lt seats k))
+        let c : cell w (r .0) k ≡ 1 = rw (M .1 .owns, r .3) at (F .table .open-cell (at p (r .0)) (M .1 .slot) (M .1 .held)) in
+        omega (arith, neighbours-into w set (r .0) k (r .1) (M .0)))
 
     sizes : (ones matched + ones (bitAnd set e) ≡ ones set) × (ones matched ≤ ones (neighbours w set)) × (ones (bitAnd set e) ≤ ones e)
     sizes = (
@@ -184,35 +172,35 @@ module _ (w o p : List ℕ) (f e d : ℕ) (F : Filled w o p f e d) where
           (λ k h b c l g. let r = near-held k b in neighbours-into w set (own o k) l (r .1) (r .0))
 
       within : (x : ℕ) → bit deficient x ≤ bit set x
-      within x = same-or (bit y x) 1
-          (λ b.
-          let r = holders-from x b in
-          let m = near-held (r .0) (omega (arith, dead-near (r .0) (r .1), r .2, bit-lt (neighbours w set) (r .0))) in
-          omega (arith, ap (bit set) (r .3), m .0, bit-lt deficient x))
-          (λ m. omega (arith, bit-or e y x, has-exposed x, bit-lt y x))
+      within x =
+          let near : (k : ℕ) → k < 64 → bit d k ≡ 1 → bit (neighbours w set) k ≡ 1 = λ k h b. omega (arith, dead-near k h, bit-lt (neighbours w set) k) in
+          let held = holders-le x (bit set x) (λ k h b q. omega (arith, near-held k (near k h b) .0, ap (bit set) q)) in
+          omega (arith, bit-or e y x, has-exposed x, held)
 
   -- ---- the theorem
 
   short-is : shortBy w deficient ≡ ones e
   unfolding shortBy
   short-is =
-      let near = ones-subset 64 (neighbours w deficient) d (near-lt deficient) (F .dead .fits) near-deficient in
-      le-antisymm (at-most deficient deficient-lt) (omega (arith, deficient-ones, near))
+      le-antisymm (at-most deficient deficient-lt)
+      (omega (arith, deficient-ones, ones-subset 64 (neighbours w deficient) d (near-lt deficient) (F .dead .fits) near-deficient))
 
   none-dead : e ≡ 0 → deficient ≡ 0
   none-dead z =
       let no : (x : ℕ) → bit e x ≡ 0 = λ x. ap (λ v. bit v x) z ∙ bit-empty x in
       let dead = F .dead .least 0 (λ x h b. absurd (omega (arith, no x))) (λ k h b c. absurd (omega (arith, bit-empty k))) in
-      empty n deficient deficient-lt (λ x l. same-or (bit y x) 1
-      (λ b. let r = holders-from x b in absurd (omega (arith, dead (r .0) (r .1), r .2, bit-empty (r .0))))
-      (λ m. omega (arith, bit-or e y x, no x, bit-lt y x)))
+      empty n deficient deficient-lt
+      (λ x l. omega (arith, bit-or e y x, no x, holders-le x 0 (λ k h b q. absurd (omega (arith, dead k h, bit-empty k)))))
+
+  shortest : (set : ℕ) → set < 2 ^ n → shortBy w set ≤ shortBy w deficient
+  shortest set h = rw short-is (at-most set h)
 
   pub deficiency-is : deficiency w ≡ ones e
-  deficiency-is = deficiency-by w deficient deficient-lt (λ set h. subst (λ v. shortBy w set ≤ v) (sym short-is) (at-most set h)) ∙ short-is
+  deficiency-is = deficiency-by w deficient deficient-lt shortest ∙ short-is
 
   pub deficient-set-is : deficientSet w ≡ deficient
   deficient-set-is =
-      deficient-set-by w deficient deficient-lt (λ set h. subst (λ v. shortBy w set ≤ v) (sym short-is) (at-most set h))
+      deficient-set-by w deficient deficient-lt shortest
       (λ set h s x l. same-or e 0
       (λ z. omega (arith, ap (λ v. bit v x) (none-dead z), bit-empty x))
       (λ m. within set h m (s ∙ short-is) x))
@@ -223,8 +211,7 @@ module _ (w o p : List ℕ) (f e d : ℕ) (F : Filled w o p f e d) where
 
   -- with an item exposed there is no plan, with none the table is complete (Hall)
   pub exposed-no-plan : e ≢ 0 → (q : List ℕ) → IsPlan w q → ⊥
-  exposed-no-plan m q Q =
-      m (ones-none n e (F .items) (sym short-is ∙ plan-none-short w 64 range q Q deficient deficient-lt))
+  exposed-no-plan m q Q = m (ones-none n e (F .items) (sym short-is ∙ plan-none-short w 64 (F .table .range) q Q deficient deficient-lt))
 
   pub none-exposed-complete : e ≡ 0 → Complete w o p f
   none-exposed-complete z = record { table = F .table; all = λ x h. F .matched x h (ap (λ v. bit v x) z ∙ bit-empty x) }

@@ -60,14 +60,7 @@ filling-start {w} {wanting = wanting} h F =
 
 module _ {w : List ℕ} {wanting : ℕ} {o p : List ℕ} {f e d left : ℕ} (F : Filling w wanting o p f e d left) where
   pub filling-end : left ≡ 0 → Filled w o p f e d
-  filling-end z =
-      record {
-        table = F .table;
-        items = F .exposed-items;
-        exposed = F .exposed;
-        matched = λ x h b. F .matched x h b (ap (λ y. bit y x) z ∙ bit-empty x);
-        dead = F .dead;
-      }
+  filling-end z = let none : (x : ℕ) → bit left x ≡ 0 = λ x. rw z (bit-empty x) in search (F .matched)
 
   module _ (some : left ≢ 0) where
     abbrev x : ℕ

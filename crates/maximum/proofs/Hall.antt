@@ -7,9 +7,9 @@ use Prim.Native.Nat.{ℕ, zero, suc, _^_, _≤_, _<_}
 use native.Mathlib.Omega.{arith}
 use native.Mathlib.Nat.{lt-of-lt-of-le}
 use lib.Count.{ones}
-use lib.ListN.{length, getD, replicate}
+use lib.ListN.{length, getD}
 use lib.Pow.{pow-mono}
-use Rattle.words.specs.Word.{without, minus, low, lowest}
+use Rattle.words.specs.Word.{without, low, lowest}
 use Rattle.words.proofs.Bits.{low-lt}
 use Rattle.words.proofs.SetLaws.{minus-le, ones-none}
 use Rattle.model.specs.Plans.{IsPlan}

@@ -52,10 +52,4 @@ module _ {w o p : List ℕ} {f e d : ℕ} (R : Refillable w o p f e d) {near : �
 
   -- a slot of the set is free now, and the same items hold slots
   pub refill-vacated : {o′ p′ : List ℕ} {f′ k : ℕ} → Vacated w o p f set set o′ p′ f′ k → Fillable w o′ p′ f′ e
-  refill-vacated W =
-      record {
-        table = W .table;
-        items = R .fillable .items;
-        exposed = λ x b M. R .fillable .exposed x b (W .new x M);
-        matched = λ x h b. W .stay x (R .fillable .matched x h b);
-      }
+  refill-vacated W = search (R .fillable .exposed, R .fillable .matched, W .new, W .stay)

@@ -34,23 +34,17 @@ abbrev claims : ℕ → vacate-lts.Claims
 claims t = (span.Asked, span.Learnt, lowest.Asked, lowest.Learnt, relocate.Asked, relocate.Learnt, minus.Asked, minus.Learnt, vacate-below t, vacate.Post)
 
 module _ (t : ℕ) where
-  abbrev Start : Type 0
-  Start = vacate-lts.Start (claims t) (vacate-at t) vacate.Post
-
-  abbrev After-span : Type 0
-  After-span = vacate-lts.After-span (claims t) (vacate-at t) vacate.Post
-
-  abbrev After-lowest : Type 0
-  After-lowest = vacate-lts.After-lowest (claims t) (vacate-at t) vacate.Post
-
   abbrev After-minus : Type 0
   After-minus = vacate-lts.After-minus (claims t) (vacate-at t) vacate.Post
 
-  abbrev start : After-span → Start
+  abbrev start : vacate-lts.After-span (claims t) (vacate-at t) vacate.Post → vacate-lts.Start (claims t) (vacate-at t) vacate.Post
   start c = c .before .before .before
 
+  abbrev at-minus : vacate-lts.After-vacate (claims t) (vacate-at t) vacate.Post → After-minus
+  at-minus c = c .before .before .before .before .before
+
   -- a free slot is at hand
-  hand : (c : After-lowest) → let a = start (c .before .before .before .before) .args in
+  hand : (c : vacate-lts.After-lowest (claims t) (vacate-at t) vacate.Post) → let a = start (c .before .before .before .before) .args in
       Relocatable (a .opens .now) (a .owner .now) (a .slot .now) (a .free) (a .set) (c .lowest .result)
   hand c =
       let at-span = c .before .before .before .before in
@@ -64,20 +58,13 @@ module _ (t : ℕ) where
       let s = start at-span in
       layer-next (s .pre .1) (at-span .span .ensures) (s .fits .seen .fits) (c .minus .ensures) (c .before .if1 .left)
 
-  abbrev at-minus : vacate-lts.After-vacate (claims t) (vacate-at t) vacate.Post → After-minus
-  at-minus c = c .before .before .before .before .before
-
 pub +vacate-spec : {M : Type 1} → statement M
 +vacate-spec = close μ-vacate λ t. vacate-lts.spec (claims t) (vacate-at t) vacate.Post
-    (λ c κs. vacate-owners (c .before .before .pre .1))
-    (λ c κs. search needs)
-    (λ c κs. hand t c)
+    (λ c κs. vacate-owners (c .before .before .pre .1)) (λ c κs. search needs) (λ c κs. hand t c)
     (λ c. (
       λ n. vacated-at-hand (start t (c .before .before .before .before .before) .pre .1) (hand t (c .before)) (c .relocate .ensures),
       λ e. absurd (omega (arith, c .relocate .ensures .below)),
-    ))
-    (λ c κs. search needs)
-    (λ c. (λ n. absurd (n refl), λ e. (record { owner = refl; slot = refl }, layer t (c .before) .done (c .if2 .taken))))
+    )) (λ c κs. search needs) (λ c. (λ n. absurd (n refl), λ e. (record { owner = refl; slot = refl }, layer t (c .before) .done (c .if2 .taken))))
     (λ c. sym (ap length (take-length (start t (c .before .before .before .before) .args .opens .now))))
     (λ c κs.
     let at-minus = c .before .before .before .before in

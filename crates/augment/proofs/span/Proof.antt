@@ -33,11 +33,9 @@ returns c = joining-end (c .before .loop .inv) (c .loop-test .left) ∙ or-zero-
 pub span-spec : {M : Type 1} → statement M
 span-spec =
     tie.close (tie.spec Inv-loop μ-loop
-    (λ c. let O = c .before .pre in joining-start (omega arith) (search needs) (search needs) (λ k h b. O .range _ (O .item k h b)))
-    (λ c κs. search needs)
+    (λ c. let O = c .before .pre in joining-start (omega arith) (search needs) (search needs) (λ k h b. O .range _ (O .item k h b))) (λ c κs. search needs)
     (λ c κs. rw (c .lowest .ensures) (start (c .before .before) .pre .owners, joining-turn (c .before .before .loop .inv) (c .before .loop-test .taken) .below))
-    (λ c κs. c .before .before .loop-test .taken)
-    (λ c. omega (arith, item (c .before), start (c .before .before .before .before) .pre .few))
+    (λ c κs. c .before .before .loop-test .taken) (λ c. omega (arith, item (c .before), start (c .before .before .before .before) .pre .few))
     (λ c. item (c .before .before))
     (λ c.
     let at-turn = c .before .before .before .before in
@@ -45,5 +43,4 @@ span-spec =
     (λ c.
     let at-turn = c .before .before .before .before in
     rw (c .before .without-lowest .ensures, c .before .before .holder .ensures, c .before .before .before .lowest .ensures)
-    (joining-turn (at-turn .before .loop .inv) (at-turn .loop-test .taken) .next))
-    returns)
+    (joining-turn (at-turn .before .loop .inv) (at-turn .loop-test .taken) .next)) returns)

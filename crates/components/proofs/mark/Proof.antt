@@ -17,8 +17,8 @@ abbrev μ-loop : tie.MeasureT-loop
 abbrev start : (c : tie.In-loop Inv-loop μ-loop) → tie.Start Inv-loop μ-loop
 start c = c .before .before .before
 
-turn : (c : tie.In-loop Inv-loop μ-loop) → let a = start c .args in
-    Visit (a .opens .now) (a .owner .now) (a .held) (a .set) (a .allowed .now) (c .before .loop .allowed) (c .before .loop .left) (lowest (c .before .loop .left))
+turn : (c : tie.In-loop Inv-loop μ-loop) → let a = start c .args in let l = c .before .loop in
+    Visit (a .opens .now) (a .owner .now) (a .held) (a .set) (a .allowed .now) (l .allowed) (l .left) (lowest (l .left))
 turn c = visit (start c .pre .0) (c .before .loop .inv) (c .loop-test .taken)
 
 -- the holder has a word and a place in the answer

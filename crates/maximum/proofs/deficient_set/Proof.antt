@@ -26,8 +26,8 @@ loop-again c =
     let at-holder = c .before .before in
     let at-turn = at-holder .before .before in
     let J = at-turn .before .loop .inv in
-    rw (c .with .ensures, ← or-single 64 _ _ (J .all-fits) (item at-holder), c .before .without-lowest .ensures, at-holder .holder .ensures, at-holder .before .lowest .ensures)
-    (joining-turn J (at-turn .loop-test .taken) .next)
+    rw (c .with .ensures, ← or-single 64 _ _ (J .all-fits) (item at-holder), c .before .without-lowest .ensures)
+    (rw (at-holder .holder .ensures, at-holder .before .lowest .ensures) (joining-turn J (at-turn .loop-test .taken) .next))
 
 returns : tie.Need-returns Inv-loop μ-loop
 unfolding holders
@@ -35,13 +35,10 @@ returns c = joining-end (c .before .loop .inv) (c .loop-test .left)
 
 pub deficient-set-spec : {M : Type 1} → statement M
 deficient-set-spec =
-    tie.close (tie.spec Inv-loop μ-loop
-    (λ c. joining-start (search needs) (search needs) (search needs) (λ k h b. pow-lt (c .pre .1 k h b)))
+    tie.close (tie.spec Inv-loop μ-loop (λ c. joining-start (search needs) (search needs) (search needs) (λ k h b. pow-lt (c .pre .1 k h b)))
     (λ c κs. search needs)
     (λ c κs. rw (c .lowest .ensures) (c .before .before .before .pre .0, joining-turn (c .before .before .loop .inv) (c .before .loop-test .taken) .below))
-    (λ c κs. c .before .before .loop-test .taken)
-    (λ c κs. item (c .before))
+    (λ c κs. c .before .before .loop-test .taken) (λ c κs. item (c .before))
     (λ c.
     let at-turn = c .before .before .before .before in
-    rw (c .before .without-lowest .ensures) (joining-turn (at-turn .before .loop .inv) (at-turn .loop-test .taken) .less))
-    loop-again returns)
+    rw (c .before .without-lowest .ensures) (joining-turn (at-turn .before .loop .inv) (at-turn .loop-test .taken) .less)) loop-again returns)

@@ -13,7 +13,8 @@ Inv-loop opens owner₀ slot₀ free wanting f₀ exposed₀ dead₀ left₀ own
 abbrev μ-loop : tie.MeasureT-loop
 μ-loop opens owner₀ slot₀ free wanting f₀ exposed₀ dead₀ left₀ owner slot f exposed dead left = left
 
-turn : (c : tie.After-without-lowest Inv-loop μ-loop) → let at-loop = c .before .before .before in let a = at-loop .before .before .args in let l = at-loop .loop in
+turn : (c : tie.After-without-lowest Inv-loop μ-loop)
+    → let at-loop = c .before .before .before in let a = at-loop .before .before .args in let l = at-loop .loop in
     FillTurn (a .opens .now) (a .wanting) (l .owner) (l .slot) (l .f) (l .exposed) (l .dead) (l .left) (c .before .lowest .result) (c .without-lowest .result)
 turn c =
     let at-loop = c .before .before .before in
@@ -28,8 +29,7 @@ at-turn c = c .before .before
 pub fill-spec : {M : Type 1} → statement M
 fill-spec =
     tie.close (tie.spec Inv-loop μ-loop (λ c. filling-start (search needs) (c .before .pre)) (λ c κs. search needs) (λ c κs. c .before .loop-test .taken)
-    (λ c. omega (arith, below c)) (λ c. turn (c .before) .item) (λ c κs. search needs)
-    (λ c κs. below (at-turn (c .before)))
+    (λ c. omega (arith, below c)) (λ c. turn (c .before) .item) (λ c κs. search needs) (λ c κs. below (at-turn (c .before)))
     (λ c. turn (at-turn (c .before .before)) .less)
     (λ c. let at-minus = c .before .before in turn (at-turn at-minus) .none (at-minus .minus .ensures) (c .before .if1 .taken) (c .with .ensures))
     (λ c κs. let at-minus = c .before .before .before in turn (at-turn at-minus) .assignable (at-minus .minus .ensures))

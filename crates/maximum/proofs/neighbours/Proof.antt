@@ -27,8 +27,7 @@ pub neighbours-spec : {M : Type 1} → statement M
 neighbours-spec =
     tie.close (tie.spec Inv-loop μ-loop
     (λ c. joining-start (omega arith) (search needs) (c .before .pre .1) (λ k h b. omega (arith, c .shared-slice-known .given k)))
-    (λ c κs. search needs) (λ c κs. c .before .loop-test .taken)
-    (λ c. omega (arith, item (c .before), c .before .before .before .before .before .pre .0))
+    (λ c κs. search needs) (λ c κs. c .before .loop-test .taken) (λ c. omega (arith, item (c .before), c .before .before .before .before .before .pre .0))
     (λ c. item (c .before .before))
     (λ c.
     let at-turn = c .before .before .before in

@@ -9,8 +9,7 @@ start c = c .before .before
 
 pub refill-spec : {M : Type 1} → statement M
 refill-spec =
-    tie.close (tie.spec (λ c κs. let F = c .before .pre .fillable in (F .table .few, F .items))
-    (λ c κs. start (c .before .before .before) .pre .fillable)
+    tie.close (tie.spec (λ c κs. let F = c .before .pre .fillable in (F .table .few, F .items)) (λ c κs. start (c .before .before .before) .pre .fillable)
     (λ c. c .fill .ensures)
     (λ c κs. let at-near = c .before .before .before in refill-vacatable (start at-near .pre) (at-near .neighbours .ensures) (c .before .before .if1 .left))
     (λ c.

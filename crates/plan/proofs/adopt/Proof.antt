@@ -15,8 +15,7 @@ range c x h = omega (arith, c .shared-slice-known .given x)
 pub adopt-spec : {M : Type 1} → statement M
 adopt-spec =
     tie.close (tie.spec (λ c κs. search needs)
-    (λ c. (λ e. absurd (false≢true e), λ e P. c .before .zeros-from .ensures .1 (not-true _ (c .if1 .taken)) (P .zeros)))
-    (λ c κs. search needs)
+    (λ c. (λ e. absurd (false≢true e), λ e P. c .before .zeros-from .ensures .1 (not-true _ (c .if1 .taken)) (P .zeros))) (λ c κs. search needs)
     (λ c.
     let at-zeros = c .before .before .before in
     let at-known = at-zeros .before in

@@ -45,13 +45,11 @@ returns-4 c =
 pub adopt-items-spec : {M : Type 1} → statement M
 adopt-items-spec =
     tie.close (tie.spec Inv-loop μ-loop (λ c κs. omega arith) (λ c. (omega arith, adopted-start (c .before .before .pre .1) (c .low .ensures)))
-    (λ c. omega arith) (λ c κs. search needs)
-    (λ c. (λ e. absurd (false≢true e), λ e P. omega (arith, c .if1 .taken, if-plan (c .before) P .below)))
+    (λ c. omega arith) (λ c κs. search needs) (λ c. (λ e. absurd (false≢true e), λ e P. omega (arith, c .if1 .taken, if-plan (c .before) P .below)))
     (λ c. omega arith) (λ c. omega arith) (λ c κs. omega arith)
     (λ c.
     let shut = bit-none _ _ (sym (c .before .has .ensures) ∙ not-true _ (c .if2 .taken)) in
-    (λ e. absurd (false≢true e), λ e P. omega (arith, shut, if-plan (c .before .before .before .before) P .may)))
-    (λ c κs. omega arith)
+    (λ e. absurd (false≢true e), λ e P. omega (arith, shut, if-plan (c .before .before .before .before) P .may))) (λ c κs. omega arith)
     (λ c.
     let used = bit-none _ _ (sym (c .before .has2 .ensures) ∙ not-true _ (c .if3 .taken)) in
     (λ e. absurd (false≢true e), λ e P. if-plan (c .before .before .before .before .before .before) P .unused used))
