@@ -15,9 +15,7 @@ module _ (w o p : List ℕ) (f : ℕ) (C : Complete w o p f) where
       let T = C .table in
       record {
         sized = T .slots;
-        open-cell = λ x h.
-            let M = C .all x h in
-            subst (λ y. cell w y (at p x) ≡ 1) (M .owns) (T .open-cell (at p x) (M .slot) (M .held));
+        open-cell = λ x h. let M = C .all x h in subst (λ y. cell w y (at p x) ≡ 1) (M .owns) (T .open-cell (at p x) (M .slot) (M .held));
         once = λ x y h g e. sym (C .all x h .owns) ∙ ap (own o) e ∙ C .all y g .owns;
         zeros = T .zeros;
       }

@@ -44,9 +44,7 @@ pub record Taken (w o p : List ℕ) (f y h : ℕ) : Type 0 where
 module _ {w o p : List ℕ} {f : ℕ} (T : Table w o p f) where
   -- a held slot's holder is matched
   pub holder-matched : (k : ℕ) → k < 64 → bit f k ≡ 0 → Matched o p f (own o k)
-  holder-matched k h b =
-      let e = T .back k h b in
-      record { slot = omega (arith, e); held = ap (bit f) e ∙ b; owns = ap (own o) e }
+  holder-matched k h b = let e = T .back k h b in record { slot = omega (arith, e); held = ap (bit f) e ∙ b; owns = ap (own o) e }
 
   -- so an exposed item holds none
   pub exposed-other : (x : ℕ) → Exposed o p f x → (k : ℕ) → k < 64 → bit f k ≡ 0 → own o k ≢ x
@@ -62,8 +60,7 @@ module _ {w o p : List ℕ} {f : ℕ} (T : Table w o p f) where
       record {
         table = search (still, T .item, T .open-cell, T .back);
         exposed = λ M. omega (arith, M .held, ap (bit (with f k)) (T .back k h b), bit-with f k);
-        stay = λ x d M.
-            record { slot = M .slot; held = bit-with-other f k (at p x) (λ e. d (sym (M .owns) ∙ ap (own o) e)) ∙ M .held; owns = M .owns };
+        stay = λ x d M. record { slot = M .slot; held = bit-with-other f k (at p x) (λ e. d (sym (M .owns) ∙ ap (own o) e)) ∙ M .held; owns = M .owns };
         new = λ x M. record { slot = M .slot; held = still (at p x) (M .held); owns = M .owns };
       }
 

@@ -142,8 +142,7 @@ module _ {w o : List ℕ} {f rest₀ path set₀ out₀ : ℕ} {a : List ℕ} {r
             sized = N .sized;
             shut = λ k l h g b e. same-or (bit rest k) 0
                 (λ q. F .shut k l h g q (omega (arith, rb l g, bit-lt rest l)))
-                (λ d.
-                omega (arith, P .arcs k l h g (omega (arith, rb k h, bit-lt set k)), only-own l g, rb l g, bit-lt rest l));
+                (λ d. omega (arith, P .arcs k l h g (omega (arith, rb k h, bit-lt set k)), only-own l g, rb l g, bit-lt rest l));
             word = λ k h b e. same-or (bit set k) 1
                 (λ c. N .on k h (omega (arith, held k h)) ∙ sym (word (own o k) (T .item k h e) (ap (bit set) (T .back k h e) ∙ c)))
                 (λ d.

@@ -1,4 +1,3 @@
 pub mod Filling
 pub mod Deficient
 pub mod Hall
-mod Refilling

@@ -1,2 +1,1 @@
 mod Adopts
-mod Callouts
