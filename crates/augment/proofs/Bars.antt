@@ -1,6 +1,6 @@
 -- A closed set bars: in a plan that leaves the slots of `fixed` to their holders, an exposed item gets no slot of a closed set.
 -- The holders of the set's other slots and that item would be more than the slots that the plan has for them. Assumes nothing.
-use mathlib.Core.Path.{_≡_, refl, sym, ap, _∙_}
+use mathlib.Core.Path.{_≡_, ap}
 use mathlib.Core.Logic.{_≢_}
 use mathlib.Core.List.{List}
 use Prim.Native.Nat.{ℕ, _-_, _≤_, _<_}
@@ -12,7 +12,7 @@ use Rattle.words.proofs.Sums.{except, except-other, sum-except, sum-injection}
 use Rattle.model.specs.Plans.{IsPlan}
 use Rattle.augment.specs.Table.{own, at, Table, Exposed}
 use Rattle.augment.specs.Search.{Within, Agrees}
-use Rattle.augment.proofs.Moves.{same-or, once, exposed-other}
+use Rattle.augment.proofs.Moves.{bit-le, once, exposed-other}
 
 -- all slots of t are held, and the holders of those outside `fixed` may use none outside t
 pub record Shut (w o : List ℕ) (f fixed t : ℕ) : Type 0 where
@@ -41,23 +41,25 @@ module _ (w o p : List ℕ) (f : ℕ) (T : Table w o p f) (q : List ℕ) (Q : Is
     item : (k : ℕ) → k < 64 → u k ≢ 0 → own o k < length w
     item k h z = T .item k h (S .held k h (in-t k z))
 
+    -- a plan gives a fixed slot to its holder alone
+    fixed-own : (y : ℕ) → y < length w → bit fixed (at q y) ≡ 1 → (bit f (at q y) ≡ 0) × (own o (at q y) ≡ y)
+    fixed-own y l b =
+        let k = at q y in
+        let h = slot-lt y l in
+        let held = S .held k h (omega (arith, S .has-fixed k h, bit-lt t k)) in
+        (held, Q .once (own o k) y (T .item k h held) l (A k h b))
+
     -- the holder of such a slot gets such a slot
     moves : (k : ℕ) → k < 64 → u k ≢ 0 → u k ≤ except a x (own o k)
     moves k h z =
         let y = own o k in
         let j = at q y in
-        let jt : 1 ≤ bit t j = omega (arith, S .shut k h (in-t k z) (not-fixed k z) j (slot-lt y (item k h z)), Q .open-cell y (item k h z)) in
-        let jk : bit fixed j ≡ 0 = same-or (bit fixed j) 0 (λ e. e) (λ n. absurd (not-own j k h z (omega (arith, bit-lt fixed j)) refl)) in
-        omega (arith, bit-lt t k, except-other a x y (exposed-other T x E k h (S .held k h (in-t k z))))
-      where
-        -- a fixed slot is its own holder's
-        not-own : (j k : ℕ) → k < 64 → u k ≢ 0 → bit fixed j ≡ 1 → j ≡ at q (own o k) → ⊥
-        not-own j k h z b e =
-            let g : j < 64 = omega (arith, slot-lt (own o k) (item k h z)) in
-            let held : bit f j ≡ 0 = S .held j g (omega (arith, S .has-fixed j g, bit-lt t j)) in
-            let same : own o j ≡ own o k = Q .once (own o j) (own o k) (T .item j g held) (item k h z) (A j g b ∙ e) in
-            let l : k ≡ j = once T k j h g (S .held k h (in-t k z)) held (sym same) in
-            omega (arith, not-fixed k z, ap (bit fixed) l)
+        let l = item k h z in
+        let g = slot-lt y l in
+        let held = S .held k h (in-t k z) in
+        let jt : 1 ≤ bit t j = omega (arith, S .shut k h (in-t k z) (not-fixed k z) j g, Q .open-cell y l) in
+        let jk = bit-le fixed j 0 (λ b. let r = fixed-own y l b in omega (arith, not-fixed k z, ap (bit fixed) (once T j k g h (r .0) held (r .1)))) in
+        omega (arith, bit-lt t k, except-other a x y (exposed-other T x E k h held))
 
     pub barred : bit t (at q x) ≡ 0
     barred =
@@ -65,11 +67,5 @@ module _ (w o p : List ℕ) (f : ℕ) (T : Table w o p f) (q : List ℕ) (Q : Is
         (λ i k h g y z e. once T i k h g (S .held i h (in-t i y)) (S .held k g (in-t k z)) e) in
         let back = sum-injection (length w) 64 a u (at q) (λ i h z. slot-lt i h) (λ i h z. omega arith) (λ i k h g y z e. Q .once i k h g e) in
         let none : u (at q x) ≡ 0 = omega (arith, there, back, sum-except a (length w) x known) in
-        same-or (bit fixed (at q x)) 0
-        (λ e. omega arith)
-        (λ n.
-        let k = at q x in
-        let h = slot-lt x known in
-        let b : bit fixed k ≡ 1 = omega (arith, bit-lt fixed k) in
-        let held : bit f k ≡ 0 = S .held k h (omega (arith, S .has-fixed k h, bit-lt t k)) in
-        absurd (exposed-other T x E k h held (Q .once (own o k) x (T .item k h held) known (A k h b))))
+        let free = bit-le fixed (at q x) 0 (λ b. let r = fixed-own x known b in absurd (exposed-other T x E (at q x) (slot-lt x known) (r .0) (r .1))) in
+        omega arith

@@ -36,13 +36,13 @@ pub record Moving (w o : List ℕ) (set h left : ℕ) : Type 0 where
   pub walk : Walk set left
   pub reached : bit (span w o left) h ≡ 1
 
--- a turn, at slot k
-pub record MoveTurn (w o : List ℕ) (set h left k : ℕ) : Type 0 where
+-- a turn, at slot k and its holder y
+pub record MoveTurn (w o : List ℕ) (set h left k y : ℕ) : Type 0 where
   pub below : k < 64
-  pub item : own o k < length w
-  pub found : cell w (own o k) h ≡ 1 → Mover w o set h k
-  pub less : without left k < left
-  pub next : cell w (own o k) h ≡ 0 → Moving w o set h (without left k)
+  pub item : y < length w
+  pub found : cell w y h ≡ 1 → Mover w o set h k
+  pub less : without left (lowest left) < left
+  pub next : cell w y h ≡ 0 → Moving w o set h (without left (lowest left))
 
 pub moving-start : {w o : List ℕ} {set h : ℕ} → Movable w o set h → set < 2 ^ 64 → Moving w o set h set
 moving-start {set = set} M l = record { owners = M .owners; walk = walk set l; reached = M .reached }
@@ -51,16 +51,16 @@ module _ {w o : List ℕ} {set h left : ℕ} (S : Moving w o set h left) where
   pub moving-some : left ≢ 0
   moving-some z = let r = span-from w o left h (S .reached) in omega (arith, r .2, ap (λ x. bit x (r .0)) z, bit-empty (r .0))
 
-  pub moving-turn : MoveTurn w o set h left (lowest left)
+  pub moving-turn : {k y : ℕ} → k ≡ lowest left → y ≡ own o k → MoveTurn w o set h left k y
   unfolding span
-  moving-turn =
+  moving-turn ek ey =
       let k = lowest left in
       let t = turn set left (S .walk) moving-some in
-      record {
+      rw (ey, ek) (record {
         below = t .below;
         item = S .owners .item k (t .below) (t .from);
         found = λ b. record { below = t .below; from = t .from; may = b };
         less = t .less;
         next = λ b. let pick = joined-pick (held-open w o) 64 left k h (t .below) (t .here) in
             record { owners = S .owners; walk = t .next; reached = omega (arith, S .reached, pick) };
-      }
+      })

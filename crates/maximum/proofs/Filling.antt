@@ -79,26 +79,6 @@ module _ {w : List ℕ} {wanting : ℕ} {o p : List ℕ} {f e d left : ℕ} (F :
     left-before : (y : ℕ) → bit rest y ≡ 1 → (bit left y ≡ 1) × (y ≢ x)
     left-before y b = (omega (arith, bit-without-le left x y, bit-lt left y), λ q. omega (arith, ap (bit rest) q, bit-without left x))
 
-    found : {cand : ℕ} {o′ p′ : List ℕ} {f′ k : ℕ} → Assigned w o p f x cand d o′ p′ f′ k → Filling w wanting o′ p′ f′ e d rest
-    found A =
-        record {
-          table = A .table;
-          walk = visit .next;
-          items = F .items;
-          exposed-items = F .exposed-items;
-          apart = λ y. omega (arith, F .apart y, bit-without-le left x y);
-          exposed = λ y b M. F .exposed y b (A .new y (λ q. omega (arith, F .apart y, ap (bit left) q, visit .here)) M);
-          waiting = λ y b M. let r = left-before y b in F .waiting y (r .0) (A .new y (r .1) M);
-          matched = λ y h b c. same-or y x (λ q. rw q (A .holds)) (λ n. A .stay y (F .matched y h b (sym (bit-without-other left x y n) ∙ c)));
-          dead = record {
-            fits = F .dead .fits;
-            held = λ l h b. A .kept l h b .0;
-            shut = λ l h b. rw (A .kept l h b .1) (F .dead .shut l h b);
-            all = F .dead .all;
-            least = λ g s c. F .dead .least g s (λ l h b q. rw (A .kept l h q .1) at (c l h b q));
-          };
-        }
-
     module _ {cand : ℕ} (ec : cand ≡ minus (getD w x 0) d) where
       in-cand : (k : ℕ) → k < 64 → bit cand k ≡ min (bit (getD w x 0) k) (1 - bit d k)
       in-cand k h = rw ec (bit-minus (getD w x 0) d k (F .dead .fits) h)
@@ -164,7 +144,23 @@ module _ {w : List ℕ} {wanting : ℕ} {o p : List ℕ} {f e d left : ℕ} (F :
           item = item;
           less = visit .less;
           assignable = assignable;
-          found = found;
+          found = λ A. record {
+            table = A .table;
+            walk = visit .next;
+            items = F .items;
+            exposed-items = F .exposed-items;
+            apart = λ y. omega (arith, F .apart y, bit-without-le left x y);
+            exposed = λ y b M. F .exposed y b (A .new y (λ q. omega (arith, F .apart y, ap (bit left) q, visit .here)) M);
+            waiting = λ y b M. let r = left-before y b in F .waiting y (r .0) (A .new y (r .1) M);
+            matched = λ y h b c. same-or y x (λ q. rw q (A .holds)) (λ n. A .stay y (F .matched y h b (sym (bit-without-other left x y n) ∙ c)));
+            dead = record {
+              fits = F .dead .fits;
+              held = λ l h b. A .kept l h b .0;
+              shut = λ l h b. rw (A .kept l h b .1) (F .dead .shut l h b);
+              all = F .dead .all;
+              least = λ g s c. F .dead .least g s (λ l h b q. rw (A .kept l h q .1) at (c l h b q));
+            };
+          };
           none = λ ec z ee. rw ee (stays ec (F .dead .fits) (all-dead ec z));
           failed = λ ec ht ee r. rw (ee, r .0 .owner, r .0 .slot) (stays ec ht (r .1));
         })

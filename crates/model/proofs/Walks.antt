@@ -66,8 +66,8 @@ pub record Joining (g : ℕ → ℕ) (n first set all left : ℕ) : Type 0 where
 pub record JoinTurn (g : ℕ → ℕ) (n first set all left k : ℕ) : Type 0 where
   pub below : k < n
   pub from : bit set k ≡ 1
-  pub less : without left k < left
-  pub next : Joining g n first set (bitOr all (g k)) (without left k)
+  pub less : without left (lowest left) < left
+  pub next : Joining g n first set (bitOr all (g k)) (without left (lowest left))
 
 pub joining-start : {g : ℕ → ℕ} {n first set : ℕ} → first < 2 ^ 64 → set < 2 ^ 64 → set < 2 ^ n → ((k : ℕ) → k < n → bit set k ≡ 1 → g k < 2 ^ 64)
     → Joining g n first set first set
@@ -75,12 +75,12 @@ joining-start {g} {n} {first} {set} hf hs inside words =
     record { inside = inside; words = words; first-fits = hf; all-fits = hf; walk = walk set hs; whole = λ l. sym (bit-or first (joined g n set) l) }
 
 module _ {g : ℕ → ℕ} {n first set all left : ℕ} (J : Joining g n first set all left) where
-  pub joining-turn : left ≢ 0 → JoinTurn g n first set all left (lowest left)
-  joining-turn z =
+  pub joining-turn : left ≢ 0 → {k : ℕ} → k ≡ lowest left → JoinTurn g n first set all left k
+  joining-turn z e =
       let k = lowest left in
       let t = turn set left (J .walk) z in
       let below = bit-one-lt n set k (J .inside) (t .from) in
-      record {
+      rw e (record {
         below = below;
         from = t .from;
         less = t .less;
@@ -92,7 +92,7 @@ module _ {g : ℕ → ℕ} {n first set all left : ℕ} (J : Joining g n first s
           walk = t .next;
           whole = λ l. omega (arith, J .whole l, bit-or all (g k) l, joined-pick g n left k l below (t .here));
         };
-      }
+      })
 
   pub joining-end : left ≡ 0 → all ≡ bitOr first (joined g n set)
   joining-end z =

@@ -5,7 +5,7 @@ use borrow.Author.Needs.{needs}
 use lib.Bits.{or-zero-l}
 use lib.ListN.{length}
 use Prim.Native.Nat.{_<_}
-use Rattle.model.proofs.Walks.{Joining, joining-start, joining-turn, joining-end}
+use Rattle.model.proofs.Walks.{Joining, JoinTurn, joining-start, joining-turn, joining-end}
 use Rattle.augment.specs.Table.{span}
 use Rattle.augment.proofs.Spans.{held-open}
 use Rattle.augment.proofs.span.Statement.{statement}
@@ -20,11 +20,12 @@ abbrev μ-loop : tie.MeasureT-loop
 abbrev start : (c : tie.At-loop Inv-loop μ-loop) → tie.Start Inv-loop μ-loop
 start c = c .before .before
 
+here : (c : tie.After-lowest Inv-loop μ-loop) → let at-loop = c .before .before in let a = start at-loop .args in
+    JoinTurn (held-open (a .opens .now) (a .owner .now)) 64 0 (a .set) (at-loop .loop .all) (at-loop .loop .left) (c .lowest .result)
+here c = joining-turn (c .before .before .loop .inv) (c .before .loop-test .taken) (c .lowest .ensures)
+
 item : (c : tie.After-holder Inv-loop μ-loop) → c .holder .result < length (start (c .before .before .before) .args .opens .now)
-item c =
-    let at-loop = c .before .before .before in
-    let turn = joining-turn (at-loop .loop .inv) (c .before .before .loop-test .taken) in
-    rw (c .holder .ensures, c .before .lowest .ensures) (start at-loop .pre .item _ (turn .below) (turn .from))
+item c = rw (c .holder .ensures) (start (c .before .before .before) .pre .item _ (here (c .before) .below) (here (c .before) .from))
 
 returns : tie.Need-returns Inv-loop μ-loop
 unfolding span
@@ -34,13 +35,7 @@ pub span-spec : {M : Type 1} → statement M
 span-spec =
     tie.close (tie.spec Inv-loop μ-loop
     (λ c. let O = c .before .pre in joining-start (omega arith) (search needs) (search needs) (λ k h b. O .range _ (O .item k h b))) (λ c κs. search needs)
-    (λ c κs. rw (c .lowest .ensures) (start (c .before .before) .pre .owners, joining-turn (c .before .before .loop .inv) (c .before .loop-test .taken) .below))
-    (λ c κs. c .before .before .loop-test .taken) (λ c. omega (arith, item (c .before), start (c .before .before .before .before) .pre .few))
-    (λ c. item (c .before .before))
-    (λ c.
-    let at-turn = c .before .before .before .before in
-    rw (c .before .without-lowest .ensures) (joining-turn (at-turn .before .loop .inv) (at-turn .loop-test .taken) .less))
-    (λ c.
-    let at-turn = c .before .before .before .before in
-    rw (c .before .without-lowest .ensures, c .before .before .holder .ensures, c .before .before .before .lowest .ensures)
-    (joining-turn (at-turn .before .loop .inv) (at-turn .loop-test .taken) .next)) returns)
+    (λ c κs. (start (c .before .before) .pre .owners, here c .below)) (λ c κs. c .before .before .loop-test .taken)
+    (λ c. omega (arith, item (c .before), start (c .before .before .before .before) .pre .few)) (λ c. item (c .before .before))
+    (λ c. rw (c .before .without-lowest .ensures) (here (c .before .before .before) .less))
+    (λ c. rw (c .before .without-lowest .ensures, c .before .before .holder .ensures) (here (c .before .before .before) .next)) returns)

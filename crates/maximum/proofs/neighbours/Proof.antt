@@ -2,11 +2,10 @@
 use mathlib.Core.Path.{_∙_}
 use native.Mathlib.Omega.{arith}
 use borrow.Author.Needs.{needs}
-use Prim.Native.Nat.{_<_}
 use lib.Bits.{or-zero-l}
 use lib.ListN.{length, getD}
 use Rattle.model.specs.Deficiency.{neighbours}
-use Rattle.model.proofs.Walks.{Joining, joining-start, joining-turn, joining-end}
+use Rattle.model.proofs.Walks.{Joining, JoinTurn, joining-start, joining-turn, joining-end}
 use Rattle.maximum.proofs.neighbours.Statement.{statement}
 use Rattle.maximum.proofs.neighbours.Tie as tie
 
@@ -16,8 +15,9 @@ Inv-loop opens items all₀ left₀ all left = Joining (λ x. getD opens x 0) (l
 abbrev μ-loop : tie.MeasureT-loop
 μ-loop opens items all₀ left₀ all left = left
 
-item : (c : tie.After-lowest Inv-loop μ-loop) → c .lowest .result < length (c .before .before .before .before .args .opens .now)
-item c = rw (c .lowest .ensures) (joining-turn (c .before .before .loop .inv) (c .before .loop-test .taken) .below)
+here : (c : tie.After-lowest Inv-loop μ-loop) → let at-loop = c .before .before in let a = at-loop .before .before .args in let l = at-loop .loop in
+    JoinTurn (λ x. getD (a .opens .now) x 0) (length (a .opens .now)) 0 (a .items) (l .all) (l .left) (c .lowest .result)
+here c = joining-turn (c .before .before .loop .inv) (c .before .loop-test .taken) (c .lowest .ensures)
 
 returns : tie.Need-returns Inv-loop μ-loop
 unfolding neighbours
@@ -26,13 +26,7 @@ returns c = joining-end (c .before .loop .inv) (c .loop-test .left) ∙ or-zero-
 pub neighbours-spec : {M : Type 1} → statement M
 neighbours-spec =
     tie.close (tie.spec Inv-loop μ-loop
-    (λ c. joining-start (omega arith) (search needs) (c .before .pre .1) (λ k h b. omega (arith, c .shared-slice-known .given k)))
-    (λ c κs. search needs) (λ c κs. c .before .loop-test .taken) (λ c. omega (arith, item (c .before), c .before .before .before .before .before .pre .0))
-    (λ c. item (c .before .before))
-    (λ c.
-    let at-turn = c .before .before .before in
-    rw (c .before .without-lowest .ensures) (joining-turn (at-turn .before .loop .inv) (at-turn .loop-test .taken) .less))
-    (λ c.
-    let at-turn = c .before .before .before in
-    rw (c .before .without-lowest .ensures, c .before .before .lowest .ensures) (joining-turn (at-turn .before .loop .inv) (at-turn .loop-test .taken) .next))
-    returns)
+    (λ c. joining-start (omega arith) (search needs) (c .before .pre .1) (λ k h b. omega (arith, c .shared-slice-known .given k))) (λ c κs. search needs)
+    (λ c κs. c .before .loop-test .taken) (λ c. omega (arith, here (c .before) .below, c .before .before .before .before .before .pre .0))
+    (λ c. here (c .before .before) .below) (λ c. rw (c .before .without-lowest .ensures) (here (c .before .before) .less))
+    (λ c. rw (c .before .without-lowest .ensures) (here (c .before .before) .next)) returns)
