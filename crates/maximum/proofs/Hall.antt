@@ -9,7 +9,7 @@ use native.Mathlib.Nat.{lt-of-lt-of-le}
 use lib.Count.{ones}
 use lib.ListN.{length, getD}
 use lib.Pow.{pow-mono}
-use Rattle.words.specs.Word.{without, low, lowest}
+use Rattle.words.specs.Word.{low, lowest}
 use Rattle.words.proofs.Bits.{low-lt}
 use Rattle.words.proofs.SetLaws.{minus-le, ones-none}
 use Rattle.model.specs.Plans.{IsPlan}
@@ -18,7 +18,7 @@ use Rattle.augment.proofs.Moves.{same-or}
 use Rattle.augment.proofs.Exists.{assign-or}
 use Rattle.augment.proofs.Completes.{complete-plan}
 use Rattle.maximum.specs.Maximum.{Filled}
-use Rattle.maximum.proofs.Filling.{Filling, FillTurn, filling-start, filling-end, filling-turn, all-fillable}
+use Rattle.maximum.proofs.Filling.{Filling, filling-start, filling-end, filling-turn, all-fillable}
 use Rattle.maximum.proofs.Deficient.{deficiency-is, none-exposed-complete}
 
 -- a maximum matching of the words w
@@ -33,14 +33,12 @@ pub record Maximal (w : List ℕ) : Type 0 where
 -- one item more, given what comes of the rest
 step : {w : List ℕ} {wanting : ℕ} {o p : List ℕ} {f e d left : ℕ} → Filling w wanting o p f e d left → left ≢ 0
     → ((o p : List ℕ) (f e d rest : ℕ) → rest < left → Filling w wanting o p f e d rest → Maximal w) → Maximal w
-step {w} {wanting} {o} {p} {f} {e} {d} {left} F some ih =
+step {w} {d = d} {left = left} F some ih =
+    let T = filling-turn F some refl refl in
     ⊎-elim
     (λ r. ih _ _ _ _ _ _ (T .less) (T .found (r .holds)))
     (λ r. ih _ _ _ _ _ _ (T .less) (T .failed refl (r .1) refl (record { owner = refl; slot = refl }, r .2)))
     (assign-or (omega (arith, minus-le (getD w (lowest left) 0) d, F .table .range (lowest left) (T .item))) (F .dead .fits) (T .assignable refl))
-  where
-    T : FillTurn w wanting o p f e d left (lowest left) (without left (lowest left))
-    T = filling-turn F some refl refl
 
 done : {w : List ℕ} {wanting : ℕ} {o p : List ℕ} {f e d left : ℕ} → Filling w wanting o p f e d left → left ≡ 0 → Maximal w
 done F z = record { owner = _; slot = _; free = _; exposed = _; dead = _; filled = filling-end F z }

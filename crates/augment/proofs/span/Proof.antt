@@ -27,15 +27,13 @@ here c = joining-turn (c .before .before .loop .inv) (c .before .loop-test .take
 item : (c : tie.After-holder Inv-loop μ-loop) → c .holder .result < length (start (c .before .before .before) .args .opens .now)
 item c = rw (c .holder .ensures) (start (c .before .before .before) .pre .item _ (here (c .before) .below) (here (c .before) .from))
 
-returns : tie.Need-returns Inv-loop μ-loop
-unfolding span
-returns c = joining-end (c .before .loop .inv) (c .loop-test .left) ∙ or-zero-l _
-
 pub span-spec : {M : Type 1} → statement M
+unfolding span
 span-spec =
     tie.close (tie.spec Inv-loop μ-loop
     (λ c. let O = c .before .pre in joining-start (omega arith) (search needs) (search needs) (λ k h b. O .range _ (O .item k h b))) (λ c κs. search needs)
     (λ c κs. (start (c .before .before) .pre .owners, here c .below)) (λ c κs. c .before .before .loop-test .taken)
     (λ c. omega (arith, item (c .before), start (c .before .before .before .before) .pre .few)) (λ c. item (c .before .before))
     (λ c. rw (c .before .without-lowest .ensures) (here (c .before .before .before) .less))
-    (λ c. rw (c .before .without-lowest .ensures, c .before .before .holder .ensures) (here (c .before .before .before) .next)) returns)
+    (λ c. rw (c .before .without-lowest .ensures, c .before .before .holder .ensures) (here (c .before .before .before) .next))
+    (λ c. joining-end (c .before .loop .inv) (c .loop-test .left) ∙ or-zero-l _))

@@ -28,12 +28,10 @@ loop-again c =
     let same = or-single 64 _ _ (at-holder .before .before .before .loop .inv .all-fits) (item at-holder) in
     rw (c .with .ensures, ← same, c .before .without-lowest .ensures, at-holder .holder .ensures) (here (at-holder .before) .next)
 
-returns : tie.Need-returns Inv-loop μ-loop
-unfolding holders
-returns c = joining-end (c .before .loop .inv) (c .loop-test .left)
-
 pub deficient-set-spec : {M : Type 1} → statement M
+unfolding holders
 deficient-set-spec =
     tie.close (tie.spec Inv-loop μ-loop (λ c. joining-start (search needs) (search needs) (search needs) (λ k h b. pow-lt (c .pre .1 k h b)))
     (λ c κs. search needs) (λ c κs. (c .before .before .before .pre .0, here c .below)) (λ c κs. c .before .before .loop-test .taken)
-    (λ c κs. item (c .before)) (λ c. rw (c .before .without-lowest .ensures) (here (c .before .before .before) .less)) loop-again returns)
+    (λ c κs. item (c .before)) (λ c. rw (c .before .without-lowest .ensures) (here (c .before .before .before) .less)) loop-again
+    (λ c. joining-end (c .before .loop .inv) (c .loop-test .left)))

@@ -19,14 +19,12 @@ here : (c : tie.After-lowest Inv-loop μ-loop) → let at-loop = c .before .befo
     JoinTurn (λ x. getD (a .opens .now) x 0) (length (a .opens .now)) 0 (a .items) (l .all) (l .left) (c .lowest .result)
 here c = joining-turn (c .before .before .loop .inv) (c .before .loop-test .taken) (c .lowest .ensures)
 
-returns : tie.Need-returns Inv-loop μ-loop
-unfolding neighbours
-returns c = joining-end (c .before .loop .inv) (c .loop-test .left) ∙ or-zero-l _
-
 pub neighbours-spec : {M : Type 1} → statement M
+unfolding neighbours
 neighbours-spec =
     tie.close (tie.spec Inv-loop μ-loop
     (λ c. joining-start (omega arith) (search needs) (c .before .pre .1) (λ k h b. omega (arith, c .shared-slice-known .given k))) (λ c κs. search needs)
     (λ c κs. c .before .loop-test .taken) (λ c. omega (arith, here (c .before) .below, c .before .before .before .before .before .pre .0))
     (λ c. here (c .before .before) .below) (λ c. rw (c .before .without-lowest .ensures) (here (c .before .before) .less))
-    (λ c. rw (c .before .without-lowest .ensures) (here (c .before .before) .next)) returns)
+    (λ c. rw (c .before .without-lowest .ensures) (here (c .before .before) .next))
+    (λ c. joining-end (c .before .loop .inv) (c .loop-test .left) ∙ or-zero-l _))

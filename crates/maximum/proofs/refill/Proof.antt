@@ -1,7 +1,7 @@
 -- `maximum::refill` meets its contract: a free slot is at hand, or none can be made free, or one is. Assumes nothing.
 use mathlib.Core.Path.{_≡_, ap, _∙_}
 use mathlib.Core.List.{List}
-use Prim.Native.Nat.{ℕ, _^_, _<_, max}
+use Prim.Native.Nat.{ℕ, _^_, _≤_, _<_, max}
 use native.Mathlib.Omega.{arith}
 use lib.Bits.{bitAnd, bitOr}
 use Rattle.words.specs.Word.{bit}
@@ -9,8 +9,8 @@ use Rattle.words.proofs.Bits.{bit-lt, bit-empty, bit-and, bit-or}
 use Rattle.model.specs.Deficiency.{neighbours}
 use Rattle.model.proofs.Deficiency.{neighbours-into, neighbours-from}
 use Rattle.augment.specs.Search.{Vacatable, Vacated, Certificate}
-use Rattle.augment.proofs.Moves.{same-or}
-use Rattle.maximum.specs.Maximum.{Fillable, Filled, Refillable}
+use Rattle.augment.proofs.Moves.{bit-le}
+use Rattle.maximum.specs.Maximum.{Fillable, Dead, Filled, Refillable}
 use borrow.Author.Needs.{needs}
 use Rattle.maximum.proofs.refill.Statement.{statement}
 use Rattle.maximum.proofs.refill.Tie as tie
@@ -33,25 +33,18 @@ module _ {w o p : List ℕ} {f e d : ℕ} (R : Refillable w o p f e d) {near : �
   -- none can be served
   refill-certificate : {t : ℕ} → t < 2 ^ 64 → Certificate w o f set set t → Filled w o p f e t
   refill-certificate {t} ht C =
-      record {
-        table = R .fillable .table;
-        items = R .fillable .items;
-        exposed = R .fillable .exposed;
-        matched = R .fillable .matched;
-        dead = record {
-          fits = ht;
-          held = C .held;
-          shut = λ k h b. C .shut k h b (omega arith);
-          all = λ x h b k g. omega (arith, neighbours-into w e x k h b, set-bit k, C .more k g);
-          least = λ g ours far.
-              let dead = R .reachable g ours (λ k h b q. far k h b (omega (arith, set-bit k, C .more k h, bit-lt t k))) in
-              C .least g
-              (λ k h. same-or (bit (neighbours w e) k) 1
-              (λ b. let r = neighbours-from w e k b in omega (arith, ours (r .0) (r .1) (r .2) k h, r .3, bit-lt set k))
-              (λ m. omega (arith, dead k h, set-bit k, bit-lt (neighbours w e) k)))
-              (λ k h b q s. far k h b q);
-        };
-      }
+      let dead : Dead w o f e t = record {
+        fits = ht;
+        held = C .held;
+        shut = λ k h b. C .shut k h b (omega arith);
+        all = λ x h b k g. omega (arith, neighbours-into w e x k h b, set-bit k, C .more k g);
+        least = λ g ours far.
+            let old = R .reachable g ours (λ k h b q. far k h b (omega (arith, set-bit k, C .more k h, bit-lt t k))) in
+            let near : (k : ℕ) → k < 64 → bit (neighbours w e) k ≤ bit g k = λ k h.
+            bit-le (neighbours w e) k (bit g k) (λ b. let r = neighbours-from w e k b in omega (arith, ours (r .0) (r .1) (r .2) k h, r .3)) in
+            C .least g (λ k h. omega (arith, set-bit k, old k h, near k h)) (λ k h b q s. far k h b q);
+      } in
+      search
 
   -- a slot of the set is free now, and the same items hold slots
   refill-vacated : {o′ p′ : List ℕ} {f′ k : ℕ} → Vacated w o p f set set o′ p′ f′ k → Fillable w o′ p′ f′ e

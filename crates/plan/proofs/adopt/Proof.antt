@@ -1,16 +1,11 @@
 -- `plan::adopt` meets its contract: both tests together say that the record is a plan. Assumes nothing.
 use mathlib.Core.Bool.{false≢true}
-use Prim.Native.Nat.{ℕ, _<_, _^_}
 use native.Mathlib.Omega.{arith}
 use borrow.Author.Tests.{not-true, not-false}
-use lib.ListN.{length, getD}
 use Rattle.plan.proofs.Adopts.{adopted-complete}
 use borrow.Author.Needs.{needs}
 use Rattle.plan.proofs.adopt.Statement.{statement}
 use Rattle.plan.proofs.adopt.Tie as tie
-
-range : (c : tie.After-shared-slice-known) → (x : ℕ) → x < length (c .before .args .opens .now) → getD (c .before .args .opens .now) x 0 < 2 ^ 64
-range c x h = omega (arith, c .shared-slice-known .given x)
 
 pub adopt-spec : {M : Type 1} → statement M
 adopt-spec =
@@ -20,6 +15,8 @@ adopt-spec =
     let at-zeros = c .before .before .before in
     let at-known = at-zeros .before in
     let zeros = at-zeros .zeros-from .ensures .0 (not-false _ (c .before .before .if1 .left)) in (
-      λ e. adopted-complete (at-known .before .pre .0) (range at-known) (search needs) zeros (c .adopt-items .ensures .0 e),
+      λ e.
+          adopted-complete (at-known .before .pre .0) (λ x h. omega (arith, at-known .shared-slice-known .given x)) (search needs) zeros
+          (c .adopt-items .ensures .0 e),
       c .adopt-items .ensures .1,
     )))

@@ -1,10 +1,10 @@
 -- `plan::adopt_items` meets its contract: each turn adopts an item, or shows that the record is no plan. Assumes nothing.
 use mathlib.Core.Path.{_≡_, sym, _∙_}
 use mathlib.Core.Bool.{false≢true}
-use Prim.Native.Nat.{ℕ, _<_, _≤_, _-_, _^_}
+use Prim.Native.Nat.{_≤_, _-_}
 use native.Mathlib.Omega.{arith}
 use borrow.Author.Tests.{not-true, not-false}
-use lib.ListN.{length, getD}
+use lib.ListN.{length}
 use Rattle.words.proofs.Bits.{bit-one, bit-none}
 use Rattle.model.specs.Plans.{IsPlan}
 use Rattle.plan.specs.Adoption.{Adopted}
@@ -19,15 +19,13 @@ Inv-loop opens owner₀ plan free₀ i₀ owner free i = (i ≤ length opens) ×
 abbrev μ-loop : tie.MeasureT-loop
 μ-loop opens owner₀ plan free₀ i₀ owner free i = length opens - i
 
-range : (c : tie.After-shared-slice-known Inv-loop μ-loop) → (x : ℕ) → getD (c .before .args .opens .now) x 0 < 2 ^ 64
-range c x = omega (arith, c .shared-slice-known .given x)
-
 -- what a plan has at the item
 if-plan : (c : tie.After-wide Inv-loop μ-loop) → let l = c .before .before .loop in let a = c .before .before .before .before .before .args in
     IsPlan (a .opens .now) (a .t2) → PlanSlot (a .opens .now) (l .free) (l .i) (c .wide .result)
 if-plan c =
     let at-loop = c .before .before in
-    plan-slot (at-loop .loop .inv .1) (c .wide .ensures) (c .before .loop-test .taken) (range (at-loop .before .before) _)
+    let word = at-loop .before .before .shared-slice-known .given (at-loop .loop .i) in
+    plan-slot (at-loop .loop .inv .1) (c .wide .ensures) (c .before .loop-test .taken) (omega (arith, word))
 
 loop-again : tie.Need-loop-again Inv-loop μ-loop
 loop-again c =

@@ -7,9 +7,6 @@ use Rattle.words.proofs.Bits.{bit-high}
 use Rattle.plan.proofs.callout.Statement.{statement}
 use Rattle.plan.proofs.callout.Tie as tie
 
-returns-2 : tie.Need-returns-2
-unfolding bit
-returns-2 c = refl
-
 pub callout-spec : {M : Type 1} → statement M
-callout-spec = tie.close (tie.spec (λ c. sym (bit-high 64 _ _ (omega arith) (omega arith))) (λ c. search needs) returns-2)
+unfolding bit
+callout-spec = tie.close (tie.spec (λ c. sym (bit-high 64 _ _ (omega arith) (omega arith))) (λ c. search needs) (λ c. refl))
