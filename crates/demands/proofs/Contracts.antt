@@ -1,5 +1,5 @@
 -- What holds by a call's contract holds of every call. Each contract is used here and nowhere else. Assumes nothing.
-use mathlib.Core.Path.{_≡_, sym, subst⁻¹, subst₂}
+use mathlib.Core.Path.{_≡_, refl, sym, subst⁻¹, subst₂}
 use mathlib.Core.List.{List}
 use Prim.Native.Nat.{ℕ}
 use lib.ListN.{length, take}

@@ -3,20 +3,18 @@ use mathlib.Core.Path.{_≡_, refl, sym, ap, ap₂, _∙_, subst}
 use mathlib.Core.Logic.{_≢_, inl, inr}
 use mathlib.Core.Bool.{Bool, true, false, cond}
 use mathlib.Core.List.{List, [], _∷_, map, List·Memᴰ, List·Memᴰ·head, List·Memᴰ·tail, List·Memᴰ·not-nil, List·Memᴰ·cases-cons, Memᴰ·map, Memᴰ·of-map}
-use Prim.Native.Nat.{ℕ, _+_, _^_, _<_, _≤_, max}
-use native.Mathlib.Nat.{le-antisymm}
+use Prim.Native.Nat.{ℕ, _+_, _^_, _<_, _≤_}
 use native.Mathlib.Omega.{arith}
 use native.Mathlib.Decide.{ℕ-discrete}
 use lib.Bits.{or-lt}
 use lib.Count.{ones}
 use lib.ListN.{length}
 use lib.Pow.{pow-pos, pow-lt}
-use Rattle.words.specs.Word.{bit, has, without}
-use Rattle.words.specs.Sum.{below, total}
-use Rattle.words.proofs.Bits.{bit-lt, bit-cases, bit-one, bit-none, has-in, has-bit, bit-empty, bit-or, bit-single, bit-single-other, bit-without-other}
-use Rattle.words.proofs.Bits.{at-slot}
+use Rattle.words.specs.Word.{bit, has}
+use Rattle.words.specs.Sum.{below, total, sum}
+use Rattle.words.proofs.Bits.{bit-lt, bit-cases, bit-one, bit-none, has-in, has-bit, bit-empty, bit-or, bit-single, bit-single-other}
 use Rattle.words.proofs.Sums.{below-from, below-into, sum-injection}
-use Rattle.words.proofs.SetLaws.{ones-sum, bit-without-le}
+use Rattle.words.proofs.SetLaws.{ones-sum}
 use Rattle.model.specs.Lists.{keep}
 use Rattle.model.specs.Sets.{members, union, image}
 use Rattle.model.proofs.Members.{keep-from, keep-into}
@@ -127,25 +125,3 @@ module _ (f : ℕ → ℕ) (n set : ℕ) where
       (λ j h z. omega (arith, from j z .1, in-image j z))
       (λ j k h l z z′ e. sym (from j z .2) ∙ ap f e ∙ from k z′ .2) in
       omega (arith, there, again, ones-sum n set small, ones-sum m i (image-lt m below))
-
--- one member apart
-pub image-pick : (f : ℕ → ℕ) (n set k : ℕ) → k < n → bit set k ≡ 1 → (j : ℕ)
-    → bit (image f n set) j ≡ max (bit (2 ^ f k) j) (bit (image f n (without set k)) j)
-image-pick f n set k h b j =
-    let whole = image f n set in
-    let less = image f n (without set k) in
-    let upper : bit whole j ≡ 1 → bit whole j ≤ max (bit (2 ^ f k) j) (bit less j) = λ o.
-    let r = image-from f n set j o in elim (ℕ-discrete (r .0) k) [
-      | yes q ↦ omega (arith, bit-single (f k), ap (bit (2 ^ f k)) (sym (ap f q) ∙ r .3))
-      | no d ↦ omega (arith, image-into f n (without set k) (r .0) (r .1) (bit-without-other set k (r .0) d ∙ r .2), ap (bit less) (r .3))
-    ] in
-    let single : bit (2 ^ f k) j ≤ bit whole j =
-    at-slot (λ i. bit (2 ^ f k) i ≤ bit whole i) (f k) (omega (arith, bit-single (f k), image-into f n set k h b))
-    (λ i d. omega (arith, bit-single-other (f k) i d)) j in
-    let rest : bit less j ≤ bit whole j = elim (bit-cases less j) [
-      | inl z ↦ omega arith
-      | inr o ↦
-          let r = image-from f n (without set k) j o in
-          omega (arith, image-into f n set (r .0) (r .1) (omega (arith, r .2, bit-without-le set k (r .0), bit-lt set (r .0))), ap (bit whole) (r .3))
-    ] in
-    le-antisymm (elim (bit-cases whole j) [ inl z ↦ omega arith | inr o ↦ upper o ]) (omega (arith, single, rest))
