@@ -5,6 +5,7 @@ use mathlib.Core.List.{List}
 use Prim.Native.Nat.{ℕ, _^_, _≤_, _<_}
 use native.Mathlib.Omega.{arith}
 use lib.ListN.{length, getD}
+use Rattle.words.specs.Word.{bit}
 use Rattle.words.proofs.Bits.{bit-empty}
 use Rattle.model.specs.Plans.{IsPlan}
 use Rattle.model.specs.PlanAnswers.{firstFrom, given}
@@ -19,15 +20,9 @@ use Rattle.least.proofs.Shifts.{lt-or}
 
 -- a full table is complete, and no item is before the first
 pub filled-settleable : {w o p : List ℕ} {f e d : ℕ} → Filled w o p f e d → e ≡ 0 → Settleable w o p f 0 0
-filled-settleable {w} {o} {p} {f} {e} {d} F z = record {
-  before = record {
-    complete = none-exposed-complete w o p f e d F z;
-    held = λ k h b. absurd (omega (arith, bit-empty k));
-    only = λ k h b. absurd (omega (arith, bit-empty k));
-    all = λ k h b l. absurd (omega arith);
-  };
-  within = omega arith;
-}
+filled-settleable {w} {o} {p} {f} {e} {d} F z =
+    let C = none-exposed-complete w o p f e d F z in let none : (k : ℕ) → bit 0 k ≡ 1 → ⊥ = λ k b. omega (arith, bit-empty k) in
+    record { before = record { complete = C; held = λ k h b. absurd (none k b); only = λ k h b. absurd (none k b); all = search arith }; within = omega arith }
 
 -- where one plan comes before another, at the first item at which they differ
 pub before-item : {w p q : List ℕ} → IsPlan w p → IsPlan w q → Before p q → (i : ℕ) × (i < length w) × Same-to p q i × (at p i < at q i)

@@ -30,8 +30,7 @@ pub record Gathered (w : List ℕ) (table : List ℕ) (all i : ℕ) : Type 0 whe
   pub words : (x : ℕ) → i ≤ x → x < length w → LaterWithin w x (getD table x 0)
 
 pub gathered-start : (w table : List ℕ) → (length w ≤ 64) × (length table ≡ 64) → Gathered w table 0 (length w)
-gathered-start w table s =
-    record { few = s .0; size = s .1; within = omega arith; open-words = λ y h g. absurd (omega arith); words = λ x h g. absurd (omega arith) }
+gathered-start w table s = search arith
 
 -- the words of y and those before are within
 pub or-later : (w : List ℕ) (all i : ℕ) → ((y : ℕ) → i < y → y < length w → Within (getD w y 0) all) → (y : ℕ) → i ≤ y → y < length w
@@ -104,7 +103,7 @@ module _ {w o p : List ℕ} {f x after fixed s : ℕ} (S : Minimizable w o p f x
   has-slot = complete-plan w o p f (S .before .complete) .open-cell x (S .known)
 
   pub minimize-lowerable : Lowerable w o p f x (getD w x 0) fixed
-  minimize-lowerable = record { fixed-held = minimize-fixed; cells = λ k h. omega arith; has = has-slot }
+  minimize-lowerable = search (minimize-fixed, has-slot, arith)
 
   -- where x can't leave its slot
   module _ (fits : f < 2 ^ 64) (stays : bitOr (bitAnd after (2 ^ s)) (bitAnd (bitOr after (getD w x 0)) f) ≡ 0) where
@@ -159,14 +158,11 @@ module _ {w o p : List ℕ} {f x after fixed s : ℕ} (S : Minimizable w o p f x
           none-free k,
         )))
 
+    pinned-le : (q : List ℕ) → IsPlan w q → Agrees o fixed q → at p x ≤ at q x
+    pinned-le q Q A = omega (arith, es, pinned q Q A)
+
     pub minimize-pinned : Lowered w o x (getD w x 0) fixed o p f s
-    minimize-pinned = record {
-      complete = S .before .complete;
-      slot = sym es;
-      from = ap (bit (getD w x 0)) es ∙ has-slot;
-      keeps = λ l h b. (S .before .held l h b, refl);
-      least = λ q Q A b. omega (arith, pinned q Q A);
-    }
+    minimize-pinned = rw es (search (has-slot, S .before .held, pinned-le))
 
 -- ---- settle: the items from `from` to i have their least slots
 
@@ -179,8 +175,7 @@ pub record Settling (w p₀ : List ℕ) (from : ℕ) (table o p : List ℕ) (f f
   pub least : (x : ℕ) → from ≤ x → x < i → (q : List ℕ) → IsPlan w q → Same-to q p x → at p x ≤ at q x
 
 pub settling-start : {w table o p : List ℕ} {f from fixed : ℕ} → Settleable w o p f from fixed → Later w from table → Settling w p from table o p f fixed from
-settling-start S L =
-    record { later = L; before = S .before; low = omega arith; high = S .within; same = λ l h. refl; least = λ x h g. absurd (omega arith) }
+settling-start S L = search arith
 
 module _ {w p₀ : List ℕ} {from : ℕ} {table o p : List ℕ} {f fixed i : ℕ} (S : Settling w p₀ from table o p f fixed i) where
   pub settling-few : length w ≤ 64
@@ -191,7 +186,7 @@ module _ {w p₀ : List ℕ} {from : ℕ} {table o p : List ℕ} {f fixed i : �
 
   module _ (more : i < length w) where
     pub settling-minimizable : Minimizable w o p f i (getD table i 0) fixed
-    settling-minimizable = record { before = S .before; known = more; later = S .later i (S .low) more }
+    settling-minimizable = search (S .later i (S .low) more)
 
     module _ {o′ p′ : List ℕ} {f′ k : ℕ} (H : Lowered w o i (getD w i 0) fixed o′ p′ f′ k) where
       pub settling-slot : k < 64

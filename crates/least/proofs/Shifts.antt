@@ -1,5 +1,5 @@
 -- An item of a complete table moves: the steps of `shift` and `lower`. Assumes nothing.
-use mathlib.Core.Path.{_≡_, refl, sym, ap, _∙_}
+use mathlib.Core.Path.{_≡_, sym, ap, _∙_}
 use mathlib.Core.List.{List}
 use Prim.Native.Nat.{ℕ, _-_, _^_, _≤_, _<_, min}
 use native.Mathlib.Omega.{arith}
@@ -58,6 +58,14 @@ module _ {w o p : List ℕ} {f x fixed : ℕ} (K : Fixed w o p f x fixed) where
       let C = K .complete in
       barred w o p (with f (at p x)) (leave-table w o p f C x (K .known)) q Q fixed t S A x (K .known) (leave-exposed w o p f C x (K .known))
 
+-- x moves twice
+pub agrees-after : {w o₀ o p : List ℕ} {f x may fixed s : ℕ} → Shifted w o₀ x may fixed o p f s → (q : List ℕ) → Agrees o₀ fixed q → Agrees o fixed q
+agrees-after G q A k h c = ap (at q) (G .keeps k h c .1) ∙ A k h c
+
+pub shifted-after : {w o₀ o p o′ p′ : List ℕ} {f f′ x cand may to fixed s k : ℕ} → Shifted w o x cand fixed o′ p′ f′ k → Shifted w o₀ x may fixed o p f s
+    → bit to k ≡ 1 → Shifted w o₀ x to fixed o′ p′ f′ k
+shifted-after H G b = record { complete = H .complete; slot = H .slot; from = b; keeps = λ l g c. (H .keeps l g c .0, H .keeps l g c .1 ∙ G .keeps l g c .1) }
+
 -- ---- shift
 
 module _ {w o p : List ℕ} {f x cand fixed s : ℕ} (S : Shiftable w o p f x cand fixed) (es : s ≡ at p x) where
@@ -70,24 +78,16 @@ module _ {w o p : List ℕ} {f x cand fixed s : ℕ} (S : Shiftable w o p f x ca
 
     pub shift-assignable : Assignable w o p f₁ x cand fixed
     shift-assignable =
-        let K = S .fixed-held in rw f₁-is (record {
-          table = leave-table w o p f (K .complete) x (K .known);
-          known = K .known;
-          exposed = leave-exposed w o p f (K .complete) x (K .known);
-          may = S .cells;
-          held = held-without K;
-          apart = S .apart;
-        })
+        let K = S .fixed-held in
+        rw f₁-is (search (leave-table w o p f (K .complete) x (K .known), leave-exposed w o p f (K .complete) x (K .known), held-without K))
 
     pub shift-found : {o′ p′ : List ℕ} {f′ k : ℕ} → Assigned w o p f₁ x cand fixed o′ p′ f′ k → Shifted w o x cand fixed o′ p′ f′ k
     shift-found {o′} {p′} {f′} {k} A =
-        let K = S .fixed-held in
-        let C = take-complete w o p f (K .complete) x (K .known) cand fixed o′ p′ f′ k (rw f₁-is at A) in
-        record { complete = C; slot = A .slot; from = A .from; keeps = A .kept }
+        let C = take-complete w o p f (S .fixed-held .complete) x (S .fixed-held .known) cand fixed o′ p′ f′ k (rw f₁-is at A) in search
 
     pub shift-stuck : {t : ℕ} → Barred w o f₁ cand fixed t → Stuck w o x cand fixed
     shift-stuck {t} B q Q A =
-        let shut : Shut w o f₁ fixed t = record { held = B .held; has-fixed = B .has-fixed; shut = B .shut } in
+        let shut : Shut w o f₁ fixed t = search in
         omega (arith, closed-bars (S .fixed-held) (rw f₁-is at shut) Q A, B .all (at q x) (slot-small (S .fixed-held) Q))
 
 -- ---- lower: x holds slot s of `may`, and the slots of `fixed` have their holders; `all` are the slots of `may` outside `fixed`
@@ -100,21 +100,15 @@ pub record Lowering (w : List ℕ) (x may fixed all : ℕ) (o₀ o p : List ℕ)
 
 pub lowering-start : {w o p : List ℕ} {f x may fixed all s : ℕ} → Lowerable w o p f x may fixed → fixed < 2 ^ 64 → all ≡ minus may fixed → s ≡ at p x
     → Lowering w x may fixed all o o p f s
-lowering-start {may} {fixed} L fits ea es =
-    let K = L .fixed-held in record {
-      fixed-held = K;
-      cells = L .cells;
-      outside = λ k h. ap (λ v. bit v k) ea ∙ bit-minus may fixed k fits h;
-      shifted = record { complete = K .complete; slot = sym es; from = ap (bit may) es ∙ L .has; keeps = λ l h b. (K .held l h b, refl) };
-    }
+lowering-start {may} {fixed} L fits ea es = rw (ea, es) (search (bit-minus may fixed, L .fixed-held .held))
 
 -- the result, once no plan gives x a lower slot
 pub lowest : {w o p : List ℕ} {f x may fixed s : ℕ} {o₀ : List ℕ} → Shifted w o₀ x may fixed o p f s
     → ((q : List ℕ) → IsPlan w q → Agrees o₀ fixed q → bit may (at q x) ≡ 1 → s ≤ at q x) → Lowered w o₀ x may fixed o p f s
-lowest H least = record { complete = H .complete; slot = H .slot; from = H .from; keeps = H .keeps; least = least }
+lowest H least = search
 
 pub lowered-shifted : {w o p : List ℕ} {f x may fixed s : ℕ} {o₀ : List ℕ} → Lowered w o₀ x may fixed o p f s → Shifted w o₀ x may fixed o p f s
-lowered-shifted L = record { complete = L .complete; slot = L .slot; from = L .from; keeps = L .keeps }
+lowered-shifted L = search
 
 module _ {w : List ℕ} {x may fixed all : ℕ} {o₀ o p : List ℕ} {f s : ℕ} (G : Lowering w x may fixed all o₀ o p f s) where
   pub lowering-slot : s < 64
@@ -142,7 +136,7 @@ module _ {w : List ℕ} {x may fixed all : ℕ} {o₀ o p : List ℕ} {f s : ℕ
     lowest-now : Stuck w o x cand fixed → Lowered w o₀ x may fixed o p f s
     lowest-now stuck = lowest (G .shifted) (λ q Q A b. lt-or (at q x) s
         (λ l.
-        let A′ : Agrees o fixed q = λ k h c. ap (at q) (G .shifted .keeps k h c .1) ∙ A k h c in
+        let A′ = agrees-after (G .shifted) q A in
         absurd (omega (arith, stuck q Q A′, in-cand (at q x) (slot-small (G .fixed-held) Q), not-fixed (G .fixed-held) Q A′, bit-low s (at q x) l)))
         (λ m. m))
 
@@ -160,14 +154,6 @@ module _ {w : List ℕ} {x may fixed all : ℕ} {o₀ o p : List ℕ} {f s : ℕ
       lowering-less = bit-one-lt s (low s) k (low-lt s) (omega (arith, in-new, H .from, bit-lt (low s) k))
 
       pub lowering-turn : Lowering w x may fixed all o₀ o′ p′ f′ k
-      lowering-turn = record {
-        fixed-held = still-fixed (G .fixed-held) H;
-        cells = G .cells;
-        outside = G .outside;
-        shifted = record {
-          complete = H .complete;
-          slot = H .slot;
-          from = omega (arith, in-new, H .from, bit-lt may k);
-          keeps = λ l g b. (H .keeps l g b .0, H .keeps l g b .1 ∙ G .shifted .keeps l g b .1);
-        };
-      }
+      lowering-turn =
+          let from : bit may k ≡ 1 = omega (arith, in-new, H .from, bit-lt may k) in
+          search (still-fixed (G .fixed-held) H, shifted-after {to = may} H (G .shifted))

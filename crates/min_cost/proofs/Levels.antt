@@ -71,13 +71,9 @@ module _ {w c l u : List ℕ} {up : ℕ} {t : List ℕ} (R : Raisable w c l u t 
     }
 
     pub raising-end : length w ≤ i → ((x : ℕ) → x < length w → getD c x 0 < 2 ^ 64) → Raised w c l u up u′ t′
-    raising-end h range = record {
-      range = range;
-      item-duals = S .item-duals .sized;
-      words = S .words .sized;
-      item-dual = λ x g. S .item-duals .done x (omega arith);
-      word = λ x g. S .words .done x (omega arith);
-    }
+    raising-end h range =
+        let dual : (x : ℕ) → x < length w → getD u′ x 0 ≡ getD u x 0 + bit up x = λ x g. S .item-duals .done x (omega arith) in
+        record { range = range; item-duals = S .item-duals .sized; words = S .words .sized; item-dual = dual; word = λ x g. S .words .done x (omega arith) }
 
 -- a cell is tight if it is open and u + 1 is its cost and its slot's number
 pub tight-bit : {l : List ℕ} {v : ℕ → ℕ} → Levels l v → (cells calls u k : ℕ) → calls < 2 ^ 64 → k < 64 → u ≤ 64

@@ -144,14 +144,8 @@ pub record Rounds (w c t y l o p : List ℕ) (f e d r : ℕ) : Type 0 where
 
 module _ {w c l y : List ℕ} {up : ℕ} {u v : ℕ → ℕ} {r : ℕ} (A : Ready w c l y up u v r) where
   pub ready-raisable : {t : List ℕ} → length t ≡ length w → Raisable w c l y t up
-  ready-raisable e = record {
-    few = A .square .few;
-    same = A .square .same;
-    levels = A .levels .sized;
-    item-duals = A .item-duals;
-    words = e;
-    room = λ i h. omega (arith, A .item-dual i h, A .small i h);
-  }
+  ready-raisable e =
+      let room : (i : ℕ) → i < length w → getD y i 0 + bit up i ≤ 64 = λ i h. omega (arith, A .item-dual i h, A .small i h) in search
 
   module _ {y′ t : List ℕ} (R : Raised w c l y up y′ t) where
     pub ready-tight : Tight w c u v t
@@ -167,21 +161,9 @@ module _ {w c l y : List ℕ} {up : ℕ} {u v : ℕ → ℕ} {r : ℕ} (A : Read
     }
 
     pub ready-rounds : (q : List ℕ) × IsPlan w q → {o p : List ℕ} {f e d : ℕ} → Filled t o p f e d → Rounds w c t y′ l o p f e d r
-    ready-rounds plan F = record {
-      plan = plan;
-      u = u;
-      v = v;
-      ready = record {
-        square = A .square;
-        duals = A .duals;
-        levels = A .levels;
-        item-duals = R .item-duals;
-        item-dual = λ i h. omega (arith, R .item-dual i h, A .item-dual i h, bit-empty i);
-        small = A .small;
-      };
-      tight = ready-tight;
-      filled = F;
-    }
+    ready-rounds plan F =
+        let raised : (i : ℕ) → i < length w → getD y′ i 0 + bit 0 i ≡ u i = λ i h. omega (arith, R .item-dual i h, A .item-dual i h, bit-empty i) in
+        record { plan = plan; u = u; v = v; ready = search; tight = ready-tight; filled = F }
 
 -- all numbers are 1 at first
 module _ {w c : List ℕ} (S : Square w c) {all : ℕ} (A : all ≡ low 64) where
