@@ -11,7 +11,7 @@ use Rattle.words.proofs.SetLaws.{bit-not-from}
 use Rattle.augment.specs.Table.{at}
 use Rattle.augment.specs.Search.{Within}
 use Rattle.least.specs.Least.{Fixed, Shiftable, Shifted, Stuck, Lowerable, Lowered, Minimizable}
-use Rattle.least.proofs.Shifts.{own-slot, slot-small, not-fixed, still-fixed}
+use Rattle.least.proofs.Shifts.{own-slot, slot-small, not-fixed, still-fixed, agrees-after, shifted-after, lowered-shifted, lowest}
 use Rattle.least.proofs.Settles.{minimize-fixed, minimize-slot, pinned}
 use Rattle.next.specs.Next.{above}
 
@@ -29,11 +29,8 @@ module _ {w o p : List ℕ} {f x after fixed s : ℕ} (C : Minimizable w o p f x
       ap (bit (above w p x)) (pinned C es fits z q Q A ∙ es) ∙ bit-not-from (getD w x 0) (at p x + 1) (at p x) h (omega arith)
 
   pub rising-start : {l may cand : ℕ} → fixed < 2 ^ 64 → l ≡ low (s + 1) → may ≡ minus (getD w x 0) l → cand ≡ minus may fixed → Rising w o p f x fixed may cand
-  rising-start {may} fits el em ec = record {
-    fixed-held = minimize-fixed C es;
-    may-is = em ∙ ap (minus (getD w x 0)) (el ∙ ap (λ z. low (z + 1)) es);
-    outside = λ k h. ap (λ v. bit v k) ec ∙ bit-minus may fixed k fits h;
-  }
+  rising-start {may} fits el em ec =
+      let e = em ∙ ap (minus (getD w x 0)) (el ∙ ap (λ z. low (z + 1)) es) in rw ec (search (minimize-fixed C es, bit-minus may fixed))
 
 in-minus : (a b k : ℕ) → bit (minus a b) k ≤ bit a k
 unfolding minus
@@ -61,24 +58,16 @@ module _ {w o p : List ℕ} {f x fixed may cand : ℕ} (R : Rising w o p f x fix
   }
 
   module _ {o₁ p₁ : List ℕ} {f₁ k : ℕ} (H : Shifted w o x cand fixed o₁ p₁ f₁ k) where
-    K : Fixed w o₁ p₁ f₁ x fixed
-    K = still-fixed (R .fixed-held) H
-
     pub rising-lowerable : Lowerable w o₁ p₁ f₁ x may fixed
     rising-lowerable =
-        let h : k < 64 = omega (arith, H .slot, own-slot K .slot) in
+        let K = still-fixed (R .fixed-held) H in let h : k < 64 = omega (arith, H .slot, own-slot K .slot) in
         record { fixed-held = K; cells = cells; has = rw (H .slot) (omega (arith, H .from, R .outside k h, bit-lt may k)) }
 
     module _ {o₂ p₂ : List ℕ} {f₂ j : ℕ} (L : Lowered w o₁ x may fixed o₂ p₂ f₂ j) where
       pub rising-below : j < 64
-      rising-below = omega (arith, L .slot, L .complete .all x (K .known) .slot)
+      rising-below = omega (arith, L .slot, L .complete .all x (R .fixed-held .known) .slot)
 
       pub rising-lowered : Lowered w o x (above w p x) fixed o₂ p₂ f₂ j
       rising-lowered =
-          let M = rw (R .may-is) at L in record {
-            complete = M .complete;
-            slot = M .slot;
-            from = M .from;
-            keeps = λ l g b. (M .keeps l g b .0, M .keeps l g b .1 ∙ H .keeps l g b .1);
-            least = λ q Q A b. M .least q Q (λ l g c. ap (at q) (H .keeps l g c .1) ∙ A l g c) b;
-          }
+          let M = rw (R .may-is) at L in
+          lowest (shifted-after (lowered-shifted M) H (M .from)) (λ q Q A b. M .least q Q (agrees-after H q A) b)

@@ -25,16 +25,6 @@ trying : (c : tie.After-without Inv-loop μ-loop) → let l = c .before .before 
     Trying (a .opens .now) (a .t2) (l .loop .owner) (l .loop .slot) (a .free) (c .without .result) (l .loop .after) (l .loop .i - 1)
 trying c = let w = c .before in advancing-trying (w .before .before .loop .inv) (w .before .loop-test .taken) (w .wide .ensures) (c .without .ensures)
 
-settle-requires : tie.Need-settle-requires Inv-loop μ-loop
-settle-requires c κs =
-    let m = at-item (c .before) in
-    trying-settleable (trying (at-without m)) (m .advance-item .ensures .0 (c .before .before .before .if1 .taken)) (c .with .ensures)
-
-returns : tie.Need-returns Inv-loop μ-loop
-returns c =
-    let s = c .before in let m = at-item (s .before .before) in
-    c .given .ensures ∙ trying-found (trying (at-without m)) (m .advance-item .ensures .0 (s .before .before .before .before .if1 .taken)) (s .settle .ensures)
-
 pub advance-spec : {M : Type 1} → statement M
 advance-spec =
     tie.close (tie.spec Inv-loop μ-loop (λ c κs. omega arith) (λ c κs. search needs)
@@ -43,7 +33,14 @@ advance-spec =
     (λ c κs. rw (c .wide .ensures) (advancing-slot (c .before .before .loop .inv) (c .before .loop-test .taken)))
     (λ c κs. trying-minimizable (trying (c .before .before))) (λ c. omega arith)
     (λ c κs. let m = at-item c in trying-below (trying (at-without m)) (m .advance-item .ensures .0 (c .before .before .if1 .taken)))
-    settle-requires (λ c κs. search needs) returns (λ c. omega arith) (λ c. omega arith) (λ c. omega arith)
+    (λ c κs.
+    let m = at-item (c .before) in
+    trying-settleable (trying (at-without m)) (m .advance-item .ensures .0 (c .before .before .before .if1 .taken)) (c .with .ensures))
+    (λ c κs. search needs)
+    (λ c.
+    let s = c .before in let m = at-item (s .before .before) in
+    c .given .ensures ∙ trying-found (trying (at-without m)) (m .advance-item .ensures .0 (s .before .before .before .before .if1 .taken)) (s .settle .ensures))
+    (λ c. omega arith) (λ c. omega arith) (λ c. omega arith)
     (λ c. let m = c .before .before .before in trying-stuck (trying (at-without m)) (m .advance-item .ensures .1 (c .before .if1 .left)))
     (λ c κs. search needs)
     (λ c. c .refused .ensures ∙ advancing-end (c .before .before .loop .inv) (omega arith)))

@@ -27,32 +27,21 @@ rising c =
     let low = c .before .before in let w = at-wide (low .before) in
     rising-start (at-start w .pre) (w .wide .ensures) (at-start w .fits .fixed .fits) (low .low .ensures) (c .before .minus .ensures) (c .minus2 .ensures)
 
-returns : tie.Need-returns
-returns c =
-    let w = c .before .before .before in (
-      λ n. absurd (n refl),
-      λ e. (
-        record { owner = refl; slot = refl },
-        rising-pinned (at-start w .pre) (w .wide .ensures) (search needs) (rw (c .before .can-leave .ensures) at (c .if1 .taken)),
-      ),
-    )
-
-returns-3 : tie.Need-returns-3
-returns-3 c =
-    let s = c .before .before in
-    (λ n. absurd (n (c .if3 .taken)), λ e. let r = s .shift .ensures .1 e in (r .0, rising-stuck (rising (at-minus2 s)) (r .1)))
-
-returns-4 : tie.Need-returns-4
-returns-4 c =
-    let s = c .before .before .before .before .before in let R = rising (at-minus2 s) in
-    let H = s .shift .ensures .0 (c .before .before .before .if3 .left) in
-    (λ n. rising-lowered R H (c .lower .ensures), λ e. absurd (omega (arith, rising-below R H (c .lower .ensures))))
-
 pub advance-item-spec : {M : Type 1} → statement M
 advance-item-spec =
-    tie.close (tie.spec (λ c. search needs) (λ c κs. search needs) (λ c. search needs) (λ c. search needs) (λ c κs. slot (c .before)) returns
+    tie.close (tie.spec (λ c. search needs) (λ c κs. search needs) (λ c. search needs) (λ c. search needs) (λ c κs. slot (c .before))
+    (λ c.
+    let w = c .before .before .before in
+    let stuck = rising-pinned (at-start w .pre) (w .wide .ensures) (search needs) (rw (c .before .can-leave .ensures) at (c .if1 .taken)) in
+    (λ n. absurd (n refl), λ e. (record { owner = refl; slot = refl }, stuck)))
     (λ c. omega (arith, slot (at-wide c))) (λ c κs. omega (arith, slot (at-wide c))) (λ c κs. search needs) (λ c κs. search needs)
     (λ c. (λ n. absurd (n refl), λ e. (record { owner = refl; slot = refl }, rising-none (rising (c .before)) (c .if2 .taken))))
-    (λ c κs. rising-shiftable (rising (c .before .before .before))) returns-3
+    (λ c κs. rising-shiftable (rising (c .before .before .before)))
+    (λ c.
+    let s = c .before .before in
+    (λ n. absurd (n (c .if3 .taken)), λ e. let r = s .shift .ensures .1 e in (r .0, rising-stuck (rising (at-minus2 s)) (r .1))))
     (λ c κs. let s = c .before .before .before .before in rising-lowerable (rising (at-minus2 s)) (s .shift .ensures .0 (c .before .before .if3 .left)))
-    returns-4)
+    (λ c.
+    let s = c .before .before .before .before .before in
+    let R = rising (at-minus2 s) in let H = s .shift .ensures .0 (c .before .before .before .if3 .left) in
+    (λ n. rising-lowered R H (c .lower .ensures), λ e. absurd (omega (arith, rising-below R H (c .lower .ensures))))))

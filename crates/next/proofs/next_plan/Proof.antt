@@ -16,18 +16,14 @@ at-opens c = c .before .before .before
 range : (c : tie.After-shared-slice-known) → (x : ℕ) → x < length (c .before .args .opens .now) → getD (c .before .args .opens .now) x 0 < 2 ^ 64
 range c x h = omega (arith, c .shared-slice-known .given x)
 
-returns : tie.Need-returns
-returns c =
-    let a = c .before .before .before in let k = at-opens a in
-    c .refused .ensures ∙ sym (next-no-plan 64 _ (k .before .pre) (range k) _ (a .adopt .ensures .1 (not-true _ (c .before .if1 .taken))))
-
-returns-2 : tie.Need-returns-2
-returns-2 c =
-    let a = c .before .before .before .before in let k = at-opens a in
-    let C = a .adopt .ensures .0 (not-false _ (c .before .before .if1 .left)) in
-    c .advance .ensures ∙ sym (next-at 64 _ (k .before .pre) (range k) _ (complete-plan _ _ _ _ C))
-
 pub next-plan-spec : {M : Type 1} → statement M
 next-plan-spec =
-    tie.close (tie.spec (λ c κs. search needs) (λ c κs. search needs) returns
-    (λ c κs. c .before .before .before .adopt .ensures .0 (not-false _ (c .before .if1 .left))) returns-2)
+    tie.close (tie.spec (λ c κs. search needs) (λ c κs. search needs)
+    (λ c.
+    let a = c .before .before .before in let k = at-opens a in
+    c .refused .ensures ∙ sym (next-no-plan 64 _ (k .before .pre) (range k) _ (a .adopt .ensures .1 (not-true _ (c .before .if1 .taken)))))
+    (λ c κs. c .before .before .before .adopt .ensures .0 (not-false _ (c .before .if1 .left)))
+    (λ c.
+    let a = c .before .before .before .before in let k = at-opens a in
+    let C = a .adopt .ensures .0 (not-false _ (c .before .before .if1 .left)) in
+    c .advance .ensures ∙ sym (next-at 64 _ (k .before .pre) (range k) _ (complete-plan _ _ _ _ C))))
