@@ -149,14 +149,8 @@ module _ {w o p : List ℕ} {f x after fixed s : ℕ} (S : Minimizable w o p f x
         let k = at q x in
         same-or k (at p x) (λ e. e ∙ sym es)
         (λ d.
-        absurd (omega (
-          arith,
-          closed-bars minimize-fixed others-shut Q A,
-          in-others k (slot-small minimize-fixed Q),
-          bit-with-other f (at p x) k d,
-          Q .open-cell x (S .known),
-          none-free k,
-        )))
+        let out = closed-bars minimize-fixed others-shut Q A in let i = in-others k (slot-small minimize-fixed Q) in
+        absurd (omega (arith, bit-with-other f (at p x) k d, Q .open-cell x (S .known), none-free k)))
 
     pinned-le : (q : List ℕ) → IsPlan w q → Agrees o fixed q → at p x ≤ at q x
     pinned-le q Q A = omega (arith, es, pinned q Q A)

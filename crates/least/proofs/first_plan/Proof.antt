@@ -17,19 +17,15 @@ range c x h = omega (arith, c .shared-slice-known .given x)
 abbrev at-opens : tie.After-low2 → tie.After-shared-slice-known
 at-opens c = c .before .before .before .before
 
-returns : tie.Need-returns
-returns c =
-    let k = at-opens (c .before .before .before .before .before .before) in
-    c .given .ensures ∙ first-found _ (k .before .pre) (range k) (c .before .settle .ensures)
-
-returns-2 : tie.Need-returns-2
-returns-2 c =
-    let at-fill = c .before .before .before in let k = at-opens (at-fill .before) in
-    c .no-plan .ensures ∙ first-none _ (k .before .pre) (range k) (at-fill .fill .ensures) (c .before .before .if1 .left)
-
 pub first-plan-spec : {M : Type 1} → statement M
 first-plan-spec =
     tie.close (tie.spec (λ c κs. search needs) (λ c κs. search needs)
     (λ c κs. let k = at-opens c in rw (c .before .low .ensures) (all-fillable _ (k .before .pre) (range k) _ (c .low2 .ensures)))
-    (λ c κs. filled-settleable (c .before .before .before .fill .ensures) (c .before .before .if1 .taken)) (λ c κs. search needs) returns
-    (λ c κs. dead-owners _ _ _ _ _ _ (c .before .before .fill .ensures)) returns-2)
+    (λ c κs. filled-settleable (c .before .before .before .fill .ensures) (c .before .before .if1 .taken)) (λ c κs. search needs)
+    (λ c.
+    let k = at-opens (c .before .before .before .before .before .before) in
+    c .given .ensures ∙ first-found _ (k .before .pre) (range k) (c .before .settle .ensures))
+    (λ c κs. dead-owners _ _ _ _ _ _ (c .before .before .fill .ensures))
+    (λ c.
+    let at-fill = c .before .before .before in let k = at-opens (at-fill .before) in
+    c .no-plan .ensures ∙ first-none _ (k .before .pre) (range k) (at-fill .fill .ensures) (c .before .before .if1 .left)))

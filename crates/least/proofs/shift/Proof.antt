@@ -4,17 +4,19 @@ use borrow.Author.Needs.{needs}
 use Rattle.least.proofs.shift.Statement.{statement}
 use Rattle.least.proofs.shift.Tie as tie
 
-returns : tie.Need-returns
-returns c =
-    let at-with = c .before in let at-wide = at-with .before .before .before in
-    let S = at-wide .before .before .before .pre in (
-      λ n. shift-found S (at-wide .wide .ensures) (at-with .with .ensures) (c .assign .ensures .0 n),
-      λ z. let r = c .assign .ensures .1 z in (r .0, shift-stuck S (at-wide .wide .ensures) (at-with .with .ensures) (r .1)),
-    )
+abbrev at-wide : tie.After-with → tie.After-wide
+at-wide c = c .before .before .before
+
+abbrev at-start : tie.After-wide → tie.Start
+at-start c = c .before .before .before
 
 pub shift-spec : {M : Type 1} → statement M
 shift-spec =
     tie.close (tie.spec (λ c. search needs) (λ c κs. search needs)
-    (λ c κs. let at-wide = c .before .before in shift-slot (at-wide .before .before .before .pre) (at-wide .wide .ensures))
-    (λ c κs. let at-wide = c .before .before .before in shift-assignable (at-wide .before .before .before .pre) (at-wide .wide .ensures) (c .with .ensures))
-    returns)
+    (λ c κs. let w = c .before .before in shift-slot (at-start w .pre) (w .wide .ensures))
+    (λ c κs. let w = at-wide c in shift-assignable (at-start w .pre) (w .wide .ensures) (c .with .ensures))
+    (λ c.
+    let w = at-wide (c .before) in let S = at-start w .pre in (
+      λ n. shift-found S (w .wide .ensures) (c .before .with .ensures) (c .assign .ensures .0 n),
+      λ z. let r = c .assign .ensures .1 z in (r .0, shift-stuck S (w .wide .ensures) (c .before .with .ensures) (r .1)),
+    )))
