@@ -1,7 +1,7 @@
 -- Duals bound the callouts of every plan, and the plans that meet the bound are those of the tight cells; so the first of these is
 -- the answer. Assumes nothing.
 use mathlib.Core.Path.{_≡_, sym, ap, _∙_}
-use mathlib.Core.Logic.{_≢_}
+use mathlib.Core.Logic.{_≢_, _⊎_}
 use mathlib.Core.Bool.{Bool, true, false, cond}
 use mathlib.Core.List.{List}
 use Prim.Native.Nat.{ℕ, _+_, _^_, _≤_, _<_, min}
@@ -17,6 +17,7 @@ use Rattle.words.proofs.Sums.{sum-cong, sum-le, sum-lt, sum-add, sum-permutatio
 use Rattle.model.specs.declared.PlanAnswer.{PlanAnswer}
 use Rattle.model.specs.Plans.{IsPlan}
 use Rattle.model.specs.Fewest.{calloutsOf}
+use Rattle.model.specs.Lists.{Before}
 use Rattle.model.specs.PlanAnswers.{given, overCap, fewestFrom}
 use Rattle.model.proofs.Plans.{plan-across}
 use Rattle.model.proofs.Laws.{callouts-le, fewest-of, fewest-of-none}
@@ -104,15 +105,12 @@ module _ {w c : List ℕ} (S : Square w c) {u v : ℕ → ℕ} {r : ℕ} (D : Du
         let g : i < n = omega (arith, T .sized) in
         open-tight T i (at q i) g (omega (arith, slot-lt q Q i g, S .few)) (Q .open-cell i g) (slack q Q e i g))
 
-    pub settled-cheapest : (p q : List ℕ) → Settled t p 0 q → Cheapest w c q r
-    settled-cheapest p q A =
+    pub settled-cheapest : {p q : List ℕ} → Settled t p 0 q → Cheapest w c q r
+    settled-cheapest {p} {q} A =
         let Q : IsPlan w q = plan-across (sym (T .sized)) (A .plan) (λ i h. tight-at q (A .plan) i h .0) in
-        record {
-          plan = Q;
-          number = met q Q (λ i h. tight-at q (A .plan) i h .1);
-          fewer = bound;
-          first = λ x X e. settled-before A (plan-in x X e) (λ l h. absurd (omega arith));
-        }
+        let first : (x : List ℕ) → IsPlan w x → calloutsOf c x ≡ r → (x ≡ q) ⊎ Before q x = λ x X e.
+        settled-before A (plan-in x X e) (λ l h. absurd (omega arith)) in
+        search (met q Q (λ i h. tight-at q (A .plan) i h .1), bound)
 
 -- ---- the answers
 
@@ -120,8 +118,8 @@ module _ {w c : List ℕ} (S : Square w c) (cap : ℕ) where
   abbrev Answer : PlanAnswer → Type 0
   Answer a = a ≡ fewestFrom 64 w c cap
 
-  pub answer-none : (o p : List ℕ) (f e d : ℕ) → Filled w o p f e d → e ≢ 0 → Answer (deficientBy o e d)
-  answer-none o p f e d F some =
+  pub answer-none : {o p : List ℕ} {f e d : ℕ} → Filled w o p f e d → e ≢ 0 → Answer (deficientBy o e d)
+  answer-none {o} {p} {f} {e} {d} F some =
       deficient-answer w o p f e d F ∙ sym (fewest-of-none 64 w (S .few) (open-range S) c cap (exposed-no-plan w o p f e d F some))
 
   module _ {p : List ℕ} {r : ℕ} (C : Cheapest w c p r) where

@@ -47,33 +47,34 @@ lifting-end {l} {d} hd L hx v N = record {
 -- ---- raise
 
 pub record Raising (w c l u : List ℕ) (up : ℕ) (t₀ u′ t′ : List ℕ) (i : ℕ) : Type 0 where
+  pub asked : Raisable w c l u t₀ up
   pub item-duals : Sweep 64 (λ x. getD u x 0) (λ x. getD u x 0 + bit up x) u′ i
   pub words : Sweep (length w) (λ x. getD t₀ x 0) (λ x. tightWord l (getD w x 0) (getD c x 0) (getD u x 0 + bit up x)) t′ i
 
-module _ {w c l u : List ℕ} {up : ℕ} {t : List ℕ} (R : Raisable w c l u t up) where
-  pub raising-start : Raising w c l u up t u t 0
-  raising-start = record { item-duals = sweep-start 64 u (R .item-duals); words = sweep-start (length w) t (R .words) }
+pub raising-start : {w c l u : List ℕ} {up : ℕ} {t : List ℕ} → Raisable w c l u t up → Raising w c l u up t u t 0
+raising-start {w} {u} {t} R = record { asked = R; item-duals = sweep-start 64 u (R .item-duals); words = sweep-start (length w) t (R .words) }
 
-  module _ {u′ t′ : List ℕ} {i : ℕ} (S : Raising w c l u up t u′ t′ i) where
-    -- the item's new dual
-    dual-is : (b : ℕ) → b ≡ bit up i → getD u′ i 0 + b ≡ getD u i 0 + bit up i
-    dual-is b e = ap₂ _+_ (S .item-duals .rest i (omega arith)) e
+module _ {w c l u : List ℕ} {up : ℕ} {t u′ t′ : List ℕ} {i : ℕ} (S : Raising w c l u up t u′ t′ i) where
+  -- the item's new dual
+  dual-is : (b : ℕ) → b ≡ bit up i → getD u′ i 0 + b ≡ getD u i 0 + bit up i
+  dual-is b e = ap₂ _+_ (S .item-duals .rest i (omega arith)) e
 
-    pub dual-room : i < length w → (b : ℕ) → b ≡ bit up i → getD u′ i 0 + b ≤ 64
-    dual-room h b e = omega (arith, dual-is b e, R .room i h)
+  pub dual-room : i < length w → {b : ℕ} → b ≡ bit up i → getD u′ i 0 + b ≤ 64
+  dual-room h {b} e = omega (arith, dual-is b e, S .asked .room i h)
 
-    pub raising-turn : i < length w → (b s : ℕ) → b ≡ bit up i → s ≡ select (getD l (getD u′ i 0 + b + 1) 0) (getD c i 0) (getD l (getD u′ i 0 + b) 0)
-        → Raising w c l u up t (set u′ i (getD u′ i 0 + b)) (set t′ i (bitAnd (getD w i 0) s)) (i + 1)
-    unfolding tightWord
-    raising-turn h b s eb es = record {
-      item-duals = sweep-turn (S .item-duals) (omega (arith, R .few)) (dual-is b eb);
-      words = sweep-turn (S .words) h (ap (bitAnd (getD w i 0)) es ∙ ap (tightWord l (getD w i 0) (getD c i 0)) (dual-is b eb));
-    }
+  pub raising-turn : i < length w → {b s : ℕ} → b ≡ bit up i → s ≡ select (getD l (getD u′ i 0 + b + 1) 0) (getD c i 0) (getD l (getD u′ i 0 + b) 0)
+      → Raising w c l u up t (set u′ i (getD u′ i 0 + b)) (set t′ i (bitAnd (getD w i 0) s)) (i + 1)
+  unfolding tightWord
+  raising-turn h {b} eb es = record {
+    asked = S .asked;
+    item-duals = sweep-turn (S .item-duals) (omega (arith, S .asked .few)) (dual-is b eb);
+    words = sweep-turn (S .words) h (ap (bitAnd (getD w i 0)) es ∙ ap (tightWord l (getD w i 0) (getD c i 0)) (dual-is b eb));
+  }
 
-    pub raising-end : length w ≤ i → ((x : ℕ) → x < length w → getD c x 0 < 2 ^ 64) → Raised w c l u up u′ t′
-    raising-end h range =
-        let dual : (x : ℕ) → x < length w → getD u′ x 0 ≡ getD u x 0 + bit up x = λ x g. S .item-duals .done x (omega arith) in
-        record { range = range; item-duals = S .item-duals .sized; words = S .words .sized; item-dual = dual; word = λ x g. S .words .done x (omega arith) }
+  pub raising-end : length w ≤ i → ((x : ℕ) → x < length w → getD c x 0 < 2 ^ 64) → Raised w c l u up u′ t′
+  raising-end h range =
+      let dual : (x : ℕ) → x < length w → getD u′ x 0 ≡ getD u x 0 + bit up x = λ x g. S .item-duals .done x (omega arith) in
+      record { range = range; item-duals = S .item-duals .sized; words = S .words .sized; item-dual = dual; word = λ x g. S .words .done x (omega arith) }
 
 -- a cell is tight if it is open and u + 1 is its cost and its slot's number
 pub tight-bit : {l : List ℕ} {v : ℕ → ℕ} → Levels l v → (cells calls u k : ℕ) → calls < 2 ^ 64 → k < 64 → u ≤ 64

@@ -16,7 +16,7 @@ use Rattle.words.proofs.SetLaws.{ones-sum, ones-none, high-empty}
 use Rattle.words.proofs.Sums.{sum-cong, sum-add}
 use Rattle.model.specs.Plans.{IsPlan}
 use Rattle.model.proofs.Laws.{callouts-le}
-use Rattle.augment.specs.Table.{own, cell}
+use Rattle.augment.specs.Table.{own, at, cell, Matched}
 use Rattle.augment.specs.Search.{Within}
 use Rattle.augment.proofs.Moves.{same-or}
 use Rattle.maximum.specs.Maximum.{Fillable, Filled, Refillable, holders}
@@ -100,27 +100,18 @@ module _ {w c : List ℕ} (S : Square w c) {u v : ℕ → ℕ} {r : ℕ} {t : Li
         (λ m. omega (arith, bit-lt (getD t i 0) k))
 
     pub refillable : Refillable t′ o p f e d
-    refillable = record {
-      fillable = record {
-        table = record {
-          few = omega (arith, F .table .few, same);
-          range = T′ .range;
-          owners = F .table .owners;
-          slots = F .table .slots;
-          item = λ k h b. omega (arith, F .table .item k h b, same);
-          open-cell = still-held;
-          back = F .table .back;
-          zeros = λ x h g. F .table .zeros x (omega (arith, same)) g;
-        };
-        items = subst (λ n. e < 2 ^ n) same (F .items);
-        exposed = F .exposed;
-        matched = λ x h b. F .matched x (omega (arith, same)) b;
-      };
-      held = F .dead .held;
-      reachable = λ g near far. F .dead .least g
-          (λ x h b. still x g h (omega (arith, bit-or e (holders o d) x, bit-lt (holders o d) x)) (near x (omega (arith, same)) b))
-          (λ k h b c. let z = F .dead .held k h c in still (own o k) g (F .table .item k h z) (deficient-holder t o p f e d F k h z ∙ c) (far k h b c));
-    }
+    refillable =
+        let few : length t′ ≤ 64 = omega (arith, F .table .few, same) in
+        let item : (k : ℕ) → k < 64 → bit f k ≡ 0 → own o k < length t′ = λ k h b. omega (arith, F .table .item k h b, same) in
+        let zeros : (x : ℕ) → length t′ ≤ x → x < 64 → at p x ≡ 0 = λ x h g. F .table .zeros x (omega (arith, same)) g in
+        let items = subst (λ n. e < 2 ^ n) same (F .items) in
+        let matched : (x : ℕ) → x < length t′ → bit e x ≡ 0 → Matched o p f x = λ x h b. F .matched x (omega (arith, same)) b in record {
+          fillable = search still-held;
+          held = F .dead .held;
+          reachable = λ g near far. F .dead .least g
+              (λ x h b. still x g h (omega (arith, bit-or e (holders o d) x, bit-lt (holders o d) x)) (near x (omega (arith, same)) b))
+              (λ k h b c. let z = F .dead .held k h c in still (own o k) g (F .table .item k h z) (deficient-holder t o p f e d F k h z ∙ c) (far k h b c));
+        }
 
 -- ---- the loop
 
@@ -201,14 +192,11 @@ module _ {w c t y l o p : List ℕ} {f e d r : ℕ} (K : Rounds w c t y l o p f 
 
   module _ {l′ : List ℕ} {up : ℕ} (L : Lifted l d l′) (E : up ≡ bitOr e (holders o d)) where
     pub round-ready : Ready w c l′ y up (λ i. K .u i + bit (bitOr e (holders o d)) i) (λ k. K .v k + bit d k) (r + s)
-    round-ready = record {
-      square = K .ready .square;
-      duals = grown;
-      levels = L (K .v) (K .ready .levels);
-      item-duals = K .ready .item-duals;
-      item-dual = λ i h. omega (arith, K .ready .item-dual i h, bit-empty i, ap (λ z. bit z i) E);
-      small = λ i h. omega (arith, grown .cap i h, number-le, K .ready .square .few);
-    }
+    round-ready =
+        let small : (i : ℕ) → i < length w → K .u i + bit (bitOr e (holders o d)) i ≤ 64 = λ i h. omega (arith, grown .cap i h, number-le) in
+        let dual : (i : ℕ) → i < length w → getD y i 0 + bit (bitOr e (holders o d)) i ≡ K .u i + bit (bitOr e (holders o d)) i = λ i h.
+        omega (arith, K .ready .item-dual i h, bit-empty i) in
+        rw E (search (grown, L (K .v) (K .ready .levels)))
 
     pub round-refillable : {y′ t′ : List ℕ} → Raised w c l′ y up y′ t′ → Refillable t′ o p f e d
     round-refillable R = refillable (K .ready .square) (K .ready .duals) (K .tight) (K .filled) (ready-tight round-ready R)

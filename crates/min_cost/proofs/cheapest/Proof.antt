@@ -39,44 +39,31 @@ at-raise2 c = c .before .before .before .before .before
 abbrev at-lift : tie.After-raise2 Inv-loop μ-loop → tie.After-lift Inv-loop μ-loop
 at-lift c = c .before .before .before .before
 
-fill-requires : tie.Need-fill-requires Inv-loop μ-loop
-fill-requires c κs =
-    let a = at-raise c in let b = at-low a in
-    start-fillable (at-start b .pre .0) (b .low .ensures) (a .raise .ensures) (c .low2 .ensures)
-
-loop-holds : tie.Need-loop-holds Inv-loop μ-loop
-loop-holds c =
-    let a = at-raise (c .before) in let b = at-low a in
-    ready-rounds (start-ready (at-start b .pre .0) (b .low .ensures)) (a .raise .ensures) (at-start b .pre .1) (c .fill .ensures)
-
-raise-requires-2 : tie.Need-raise-requires-2 Inv-loop μ-loop
-raise-requires-2 c κs =
-    let f = c .before .before .before in let s = at-size f in let K = at-loop s .loop .inv in
-    ready-raisable (round-ready K (s .before .if1 .taken) (s .size .ensures) (f .lift .ensures) (f .before .before .deficient-set .ensures)) (K .tight .sized)
-
-refill-requires : tie.Need-refill-requires Inv-loop μ-loop
-refill-requires c κs =
-    let a = at-raise2 c in let f = at-lift a in let s = at-size f in
-    round-refillable (at-loop s .loop .inv) (s .before .if1 .taken) (s .size .ensures) (f .lift .ensures) (f .before .before .deficient-set .ensures)
-    (a .raise2 .ensures)
-
-loop-again : tie.Need-loop-again Inv-loop μ-loop
-loop-again c =
-    let a = at-raise2 (c .before) in let f = at-lift a in let s = at-size f in let K = at-loop s .loop .inv in
-    ready-rounds (round-ready K (s .before .if1 .taken) (s .size .ensures) (f .lift .ensures) (f .before .before .deficient-set .ensures)) (a .raise2 .ensures)
-    (K .plan) (c .refill .ensures)
-
 pub cheapest-spec : {M : Type 1} → statement M
 cheapest-spec =
     tie.close (tie.spec Inv-loop μ-loop (λ c κs. search needs) (λ c. search needs)
     (λ c κs. let b = c .before .before .before in ready-raisable (start-ready (at-start b .pre .0) (b .low .ensures)) (at-start b .pre .2))
-    (λ c κs. omega arith) fill-requires loop-holds (λ c κs. search needs)
-    (λ c. omega (arith, number-le (at-loop c .loop .inv) (c .before .if1 .taken) (c .size .ensures)))
+    (λ c κs. omega arith)
+    (λ c κs. let a = at-raise c in let b = at-low a in start-fillable (at-start b .pre .0) (b .low .ensures) (a .raise .ensures) (c .low2 .ensures))
+    (λ c.
+    let a = at-raise (c .before) in let b = at-low a in
+    ready-rounds (start-ready (at-start b .pre .0) (b .low .ensures)) (a .raise .ensures) (at-start b .pre .1) (c .fill .ensures))
+    (λ c κs. search needs) (λ c. omega (arith, number-le (at-loop c .loop .inv) (c .before .if1 .taken) (c .size .ensures)))
     (λ c κs. dead-owners _ _ _ _ _ _ (at-loop (c .before) .loop .inv .filled))
-    (λ c κs. at-loop (c .before .before .before) .loop .inv .ready .levels .sized) raise-requires-2 refill-requires
+    (λ c κs. at-loop (c .before .before .before) .loop .inv .ready .levels .sized)
+    (λ c κs.
+    let f = c .before .before .before in let s = at-size f in let K = at-loop s .loop .inv in
+    ready-raisable (round-ready K (s .before .if1 .taken) (s .size .ensures) (f .lift .ensures) (f .before .before .deficient-set .ensures)) (K .tight .sized))
+    (λ c κs.
+    let a = at-raise2 c in let f = at-lift a in let s = at-size f in
+    round-refillable (at-loop s .loop .inv) (s .before .if1 .taken) (s .size .ensures) (f .lift .ensures) (f .before .before .deficient-set .ensures)
+    (a .raise2 .ensures))
     (λ c. let s = at-size (at-lift (at-raise2 (c .before))) in number-less (at-loop s .loop .inv) (s .before .if1 .taken) (s .size .ensures))
-    loop-again (λ c κs. filled-settleable (c .before .before .before .before .before .loop .inv .filled) (c .before .before .before .if1 .left))
-    (λ c. search needs)
+    (λ c.
+    let a = at-raise2 (c .before) in let f = at-lift a in let s = at-size f in let K = at-loop s .loop .inv in
+    ready-rounds (round-ready K (s .before .if1 .taken) (s .size .ensures) (f .lift .ensures) (f .before .before .deficient-set .ensures)) (a .raise2 .ensures)
+    (K .plan) (c .refill .ensures))
+    (λ c κs. filled-settleable (c .before .before .before .before .before .loop .inv .filled) (c .before .before .before .if1 .left)) (λ c. search needs)
     (λ c.
     let K = c .before .before .before .before .before .before .loop .inv in
-    settled-cheapest (K .ready .square) (K .ready .duals) (K .tight) _ _ (c .settle .ensures)))
+    settled-cheapest (K .ready .square) (K .ready .duals) (K .tight) (c .settle .ensures)))

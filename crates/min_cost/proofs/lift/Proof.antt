@@ -12,11 +12,9 @@ Inv-loop level₀ dead below₀ x₀ level below x = Lifting level₀ dead level
 abbrev μ-loop : tie.MeasureT-loop
 μ-loop level₀ dead below₀ x₀ level below x = 66 - x
 
-loop-again : tie.Need-loop-again Inv-loop μ-loop
-loop-again c = let l = c .before .before .before in lifting-turn (l .loop .inv) (c .before .before .loop-test .taken) (c .select .ensures)
-
 pub lift-spec : {M : Type 1} → statement M
 lift-spec =
     tie.close (tie.spec Inv-loop μ-loop (λ c. lifting-start (c .pre)) (λ c. omega arith) (λ c. omega (arith, c .before .loop .inv .sweep .sized))
     (λ c κs. search needs) (λ c. omega arith) (λ c. omega (arith, c .before .before .before .loop .inv .sweep .sized)) (λ c. omega arith) (λ c. omega arith)
-    loop-again (λ c. lifting-end (search needs) (c .before .loop .inv) (omega arith)))
+    (λ c. let t = c .before .before in lifting-turn (t .before .loop .inv) (t .loop-test .taken) (c .select .ensures))
+    (λ c. lifting-end (search needs) (c .before .loop .inv) (omega arith)))

@@ -13,17 +13,8 @@ Inv-loop opens callouts level dual₀ tight₀ up i₀ dual tight i = Raising op
 abbrev μ-loop : tie.MeasureT-loop
 μ-loop opens callouts level dual₀ tight₀ up i₀ dual tight i = length opens - i
 
--- what the loop's head knows
-abbrev start : (c : tie.At-loop Inv-loop μ-loop) → tie.Start Inv-loop μ-loop
-start c = c .before .before .before .before
-
 room : (c : tie.After-bit Inv-loop μ-loop) → let l = c .before .before .before .loop in getD (l .dual) (l .i) 0 + c .bit .result ≤ 64
-room c = let l = c .before .before .before in dual-room (start l .pre) (l .loop .inv) (c .before .before .loop-test .taken) _ (c .bit .ensures)
-
-loop-again : tie.Need-loop-again Inv-loop μ-loop
-loop-again c =
-    let b = c .before .before .before .before .before in let l = b .before .before .before in
-    raising-turn (start l .pre) (l .loop .inv) (b .before .before .loop-test .taken) _ _ (b .bit .ensures) (c .select .ensures)
+room c = let t = c .before .before in dual-room (t .before .loop .inv) (t .loop-test .taken) (c .bit .ensures)
 
 pub raise-spec : {M : Type 1} → statement M
 raise-spec =
@@ -31,5 +22,9 @@ raise-spec =
     (λ c. omega (arith, room c)) (λ c. omega arith) (λ c. omega arith) (λ c. omega arith) (λ c. omega arith) (λ c. omega (arith, room (c .before)))
     (λ c. omega (arith, room (c .before))) (λ c. omega (arith, room (c .before))) (λ c. omega arith) (λ c. omega arith)
     (λ c. omega (arith, room (c .before .before .before))) (λ c. omega (arith, room (c .before .before .before))) (λ c κs. search needs) (λ c. omega arith)
-    (λ c. omega arith) (λ c. omega arith) (λ c. omega arith) loop-again (λ c. search needs)
-    (λ c. raising-end (start (c .before) .pre) (c .before .loop .inv) (omega arith) (λ x h. omega (arith, c .before .before .before .shared-slice-known2 .given x))))
+    (λ c. omega arith) (λ c. omega arith) (λ c. omega arith)
+    (λ c.
+    let b = c .before .before .before .before .before in let t = b .before .before in
+    raising-turn (t .before .loop .inv) (t .loop-test .taken) (b .bit .ensures) (c .select .ensures))
+    (λ c. search needs)
+    (λ c. raising-end (c .before .loop .inv) (omega arith) (λ x h. omega (arith, c .before .before .before .shared-slice-known2 .given x))))
