@@ -12,7 +12,7 @@ use Rattle.model.specs.PlanAnswers.{firstFrom, given}
 use Rattle.model.specs.Lists.{Before}
 use Rattle.model.proofs.Order.{before-trichotomy, before-place, before-by}
 use Rattle.model.proofs.Laws.{first-of, first-of-none}
-use Rattle.augment.specs.Table.{at, Complete}
+use Rattle.augment.specs.Table.{at}
 use Rattle.maximum.specs.Maximum.{Filled, deficientBy}
 use Rattle.maximum.proofs.Deficient.{deficient-answer, exposed-no-plan, none-exposed-complete}
 use Rattle.least.specs.Least.{Settleable, Same-to, Settled}

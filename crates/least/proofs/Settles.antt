@@ -1,6 +1,6 @@
 -- The items of a complete table get their least slots one after the other: the steps of `later`, `minimize` and `settle`.
 -- Assumes nothing.
-use mathlib.Core.Path.{_≡_, refl, sym, ap, _∙_}
+use mathlib.Core.Path.{_≡_, sym, ap, _∙_}
 use mathlib.Core.Logic.{_≢_}
 use mathlib.Core.List.{List}
 use Prim.Native.Nat.{ℕ, _+_, _-_, _^_, _≤_, _<_, max}
@@ -12,7 +12,7 @@ use Rattle.words.specs.Word.{bit, with, minus, low}
 use Rattle.words.proofs.Bits.{bit-lt, bit-empty, bit-and, bit-or, bit-minus, bit-low, bit-single, bit-with, bit-with-other, with-lt}
 use Rattle.words.proofs.SetLaws.{bit-with-le}
 use Rattle.model.specs.Plans.{IsPlan}
-use Rattle.augment.specs.Table.{own, at, cell, Complete}
+use Rattle.augment.specs.Table.{own, at, cell}
 use Rattle.augment.specs.Search.{Within, Agrees}
 use Rattle.augment.proofs.Moves.{same-or}
 use Rattle.augment.proofs.Bars.{Shut}
@@ -32,10 +32,10 @@ pub record Gathered (w : List ℕ) (table : List ℕ) (all i : ℕ) : Type 0 whe
 pub gathered-start : (w table : List ℕ) → (length w ≤ 64) × (length table ≡ 64) → Gathered w table 0 (length w)
 gathered-start w table s = search arith
 
--- the words of y and those before are within
-pub or-later : (w : List ℕ) (all i : ℕ) → ((y : ℕ) → i < y → y < length w → Within (getD w y 0) all) → (y : ℕ) → i ≤ y → y < length w
+-- with i's word, all words from i on are within
+pub later-with : (w : List ℕ) (all i : ℕ) → ((y : ℕ) → i < y → y < length w → Within (getD w y 0) all) → (y : ℕ) → i ≤ y → y < length w
     → Within (getD w y 0) (bitOr all (getD w i 0))
-or-later w all i L y h g k l = same-or y i
+later-with w all i L y h g k l = same-or y i
     (λ e. omega (arith, bit-or all (getD w i 0) k, ap (λ z. bit (getD w z 0) k) e))
     (λ d. omega (arith, bit-or all (getD w i 0) k, L y (omega arith) g k l))
 
@@ -44,7 +44,7 @@ gathered-turn {w} {table} {all} {i} G some = record {
   few = G .few;
   size = length-set table (i - 1) all ∙ G .size;
   within = omega (arith, G .within);
-  open-words = or-later w all (i - 1) (λ y h g. G .open-words y (omega arith) g);
+  open-words = later-with w all (i - 1) (λ y h g. G .open-words y (omega arith) g);
   words = λ x h g y m n. same-or x (i - 1)
       (λ e.
       rw (ap (λ z. getD (set table (i - 1) all) z 0) e ∙ getD-set-same table (i - 1) all 0 (omega (arith, G .size, G .within)))
@@ -144,23 +144,23 @@ module _ {w o p : List ℕ} {f x after fixed s : ℕ} (S : Minimizable w o p f x
               (λ m. omega (arith, a, none-free l, in-others l g, bit-with-other f s′ l m, bit-lt after l, bit-lt f l));
         }
 
-    pub pinned : (q : List ℕ) → IsPlan w q → Agrees o fixed q → at q x ≡ s
+    pub pinned : (q : List ℕ) → IsPlan w q → Agrees o fixed q → at q x ≡ at p x
     pinned q Q A =
         let k = at q x in
-        same-or k (at p x) (λ e. e ∙ sym es)
+        same-or k (at p x) (λ e. e)
         (λ d.
         let out = closed-bars minimize-fixed others-shut Q A in let i = in-others k (slot-small minimize-fixed Q) in
         absurd (omega (arith, bit-with-other f (at p x) k d, Q .open-cell x (S .known), none-free k)))
 
-    pinned-le : (q : List ℕ) → IsPlan w q → Agrees o fixed q → at p x ≤ at q x
-    pinned-le q Q A = omega (arith, es, pinned q Q A)
-
     pub minimize-pinned : Lowered w o x (getD w x 0) fixed o p f s
-    minimize-pinned = rw es (search (has-slot, S .before .held, pinned-le))
+    minimize-pinned =
+        let least : (q : List ℕ) → IsPlan w q → Agrees o fixed q → at p x ≤ at q x = λ q Q A. omega (arith, pinned q Q A) in
+        rw es (search (has-slot, S .before .held))
 
 -- ---- settle: the items from `from` to i have their least slots
 
 pub record Settling (w p₀ : List ℕ) (from : ℕ) (table o p : List ℕ) (f fixed i : ℕ) : Type 0 where
+  pub few : length w ≤ 64
   pub later : Later w from table
   pub before : Prefix w o p f i fixed
   pub low : from ≤ i
@@ -172,9 +172,6 @@ pub settling-start : {w table o p : List ℕ} {f from fixed : ℕ} → Settleabl
 settling-start S L = search arith
 
 module _ {w p₀ : List ℕ} {from : ℕ} {table o p : List ℕ} {f fixed i : ℕ} (S : Settling w p₀ from table o p f fixed i) where
-  pub settling-few : length w ≤ 64
-  settling-few = S .before .complete .table .few
-
   pub settling-end : length w ≤ i → Settled w p₀ from p
   settling-end h = record { plan = complete-plan w o p f (S .before .complete); same = S .same; least = λ x l g. S .least x l (omega (arith, S .high)) }
 
@@ -191,6 +188,7 @@ module _ {w p₀ : List ℕ} {from : ℕ} {table o p : List ℕ} {f fixed i : �
 
       pub settling-turn : {fixed′ : ℕ} → fixed′ ≡ with fixed k → Settling w p₀ from table o′ p′ f′ fixed′ (i + 1)
       settling-turn e = record {
+        few = S .few;
         later = S .later;
         before = prefix-next (S .before) more (lowered-shifted H) e;
         low = omega (arith, S .low);

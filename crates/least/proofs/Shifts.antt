@@ -9,7 +9,7 @@ use lib.ListN.{getD}
 use Rattle.words.specs.Word.{bit, with, minus, low}
 use Rattle.words.proofs.Bits.{bit-lt, bit-empty, bit-and, bit-minus, bit-low, bit-one-lt, bit-with-other, low-lt}
 use Rattle.model.specs.Plans.{IsPlan}
-use Rattle.augment.specs.Table.{own, at, Matched, Complete}
+use Rattle.augment.specs.Table.{own, at, Matched}
 use Rattle.augment.specs.Search.{Within, Assignable, Assigned, Barred, Same, Agrees}
 use Rattle.augment.proofs.Moves.{same-or}
 use Rattle.augment.proofs.Bars.{Shut, slot-lt, barred}
@@ -103,9 +103,9 @@ pub lowering-start : {w o p : List ℕ} {f x may fixed all s : ℕ} → Lowerabl
 lowering-start {may} {fixed} L fits ea es = rw (ea, es) (search (bit-minus may fixed, L .fixed-held .held))
 
 -- the result, once no plan gives x a lower slot
-pub lowest : {w o p : List ℕ} {f x may fixed s : ℕ} {o₀ : List ℕ} → Shifted w o₀ x may fixed o p f s
+pub lowered-by : {w o p : List ℕ} {f x may fixed s : ℕ} {o₀ : List ℕ} → Shifted w o₀ x may fixed o p f s
     → ((q : List ℕ) → IsPlan w q → Agrees o₀ fixed q → bit may (at q x) ≡ 1 → s ≤ at q x) → Lowered w o₀ x may fixed o p f s
-lowest H least = search
+lowered-by H least = search
 
 pub lowered-shifted : {w o p : List ℕ} {f x may fixed s : ℕ} {o₀ : List ℕ} → Lowered w o₀ x may fixed o p f s → Shifted w o₀ x may fixed o p f s
 lowered-shifted L = search
@@ -115,7 +115,7 @@ module _ {w : List ℕ} {x may fixed all : ℕ} {o₀ o p : List ℕ} {f s : ℕ
   lowering-slot = omega (arith, G .shifted .slot, own-slot (G .fixed-held) .slot)
 
   pub lowering-zero : s ≡ 0 → Lowered w o₀ x may fixed o p f s
-  lowering-zero z = lowest (G .shifted) (λ q Q A b. omega arith)
+  lowering-zero z = lowered-by (G .shifted) (λ q Q A b. omega arith)
 
   -- the slots of `all` below s
   module _ {below : ℕ} (eb : below ≡ low s) where
@@ -134,7 +134,7 @@ module _ {w : List ℕ} {x may fixed all : ℕ} {o₀ o p : List ℕ} {f s : ℕ
 
     -- none of these can be had
     lowest-now : Stuck w o x cand fixed → Lowered w o₀ x may fixed o p f s
-    lowest-now stuck = lowest (G .shifted) (λ q Q A b. lt-or (at q x) s
+    lowest-now stuck = lowered-by (G .shifted) (λ q Q A b. lt-or (at q x) s
         (λ l.
         let A′ = agrees-after (G .shifted) q A in
         absurd (omega (arith, stuck q Q A′, in-cand (at q x) (slot-small (G .fixed-held) Q), not-fixed (G .fixed-held) Q A′, bit-low s (at q x) l)))

@@ -1,6 +1,6 @@
 -- The loop of `advance`: from the last item down to i none can go above its slot in a plan that gives the items before it the same
 -- slots. The first that can gives the next plan. Assumes nothing.
-use mathlib.Core.Path.{_≡_, refl, sym, ap, _∙_}
+use mathlib.Core.Path.{_≡_, sym, ap, _∙_}
 use mathlib.Core.Logic.{_≢_, _⊎_, inr}
 use mathlib.Core.List.{List}
 use Prim.Native.Nat.{ℕ, _+_, _-_, _^_, _≤_, _<_}
@@ -20,7 +20,7 @@ use Rattle.augment.proofs.Moves.{same-or}
 use Rattle.augment.proofs.Completes.{complete-plan}
 use Rattle.least.specs.Least.{Stuck, Lowered, LaterWithin, Prefix, Minimizable, Settleable, Same-to, Settled}
 use Rattle.least.proofs.Shifts.{lt-or, own-slot, slot-small, lowered-shifted}
-use Rattle.least.proofs.Settles.{or-later, prefix-fixed, prefix-agrees, prefix-stays, prefix-next}
+use Rattle.least.proofs.Settles.{later-with, prefix-fixed, prefix-agrees, prefix-stays, prefix-next}
 use Rattle.least.proofs.Firsts.{before-item, before-at, settled-before}
 use Rattle.next.specs.Next.{above}
 
@@ -104,7 +104,7 @@ module _ {w g o p : List ℕ} {f fixed after x : ℕ} (T : Trying w g o p f fixe
     slots = r .0 .slot ∙ T .slots;
     before = T .before;
     within = omega (arith, T .known);
-    later = or-later w after x (T .later);
+    later = later-with w after x (T .later);
     stuck = λ y h l q Q S. same-or y x
         (λ e. rw e (lt-or (at g x) (at q x)
         (λ m. absurd (omega (arith, (rw (T .slots) at (r .1)) q Q (prefix-agrees (T .before) q (λ z n. S z (omega arith))), above-open Q m)))

@@ -11,7 +11,7 @@ use Rattle.words.proofs.SetLaws.{bit-not-from}
 use Rattle.augment.specs.Table.{at}
 use Rattle.augment.specs.Search.{Within}
 use Rattle.least.specs.Least.{Fixed, Shiftable, Shifted, Stuck, Lowerable, Lowered, Minimizable}
-use Rattle.least.proofs.Shifts.{own-slot, slot-small, not-fixed, still-fixed, agrees-after, shifted-after, lowered-shifted, lowest}
+use Rattle.least.proofs.Shifts.{own-slot, slot-small, not-fixed, still-fixed, agrees-after, shifted-after, lowered-shifted, lowered-by}
 use Rattle.least.proofs.Settles.{minimize-fixed, minimize-slot, pinned}
 use Rattle.next.specs.Next.{above}
 
@@ -26,7 +26,7 @@ module _ {w o p : List ℕ} {f x after fixed s : ℕ} (C : Minimizable w o p f x
   pub rising-pinned : f < 2 ^ 64 → bitOr (bitAnd after (2 ^ s)) (bitAnd (bitOr after (getD w x 0)) f) ≡ 0 → Stuck w o x (above w p x) fixed
   rising-pinned fits z q Q A =
       let h : at p x + 1 ≤ 64 = omega (arith, minimize-slot C es) in
-      ap (bit (above w p x)) (pinned C es fits z q Q A ∙ es) ∙ bit-not-from (getD w x 0) (at p x + 1) (at p x) h (omega arith)
+      ap (bit (above w p x)) (pinned C es fits z q Q A) ∙ bit-not-from (getD w x 0) (at p x + 1) (at p x) h (omega arith)
 
   pub rising-start : {l may cand : ℕ} → fixed < 2 ^ 64 → l ≡ low (s + 1) → may ≡ minus (getD w x 0) l → cand ≡ minus may fixed → Rising w o p f x fixed may cand
   rising-start {may} fits el em ec =
@@ -70,4 +70,4 @@ module _ {w o p : List ℕ} {f x fixed may cand : ℕ} (R : Rising w o p f x fix
       pub rising-lowered : Lowered w o x (above w p x) fixed o₂ p₂ f₂ j
       rising-lowered =
           let M = rw (R .may-is) at L in
-          lowest (shifted-after (lowered-shifted M) H (M .from)) (λ q Q A b. M .least q Q (agrees-after H q A) b)
+          lowered-by (shifted-after (lowered-shifted M) H (M .from)) (λ q Q A b. M .least q Q (agrees-after H q A) b)

@@ -3,7 +3,7 @@ use mathlib.Core.Path.{refl}
 use native.Mathlib.Omega.{arith}
 use Prim.Native.Nat.{_-_}
 use lib.ListN.{length}
-use Rattle.least.proofs.Settles.{Settling, settling-start, settling-few, settling-minimizable, settling-slot, settling-turn, settling-end}
+use Rattle.least.proofs.Settles.{Settling, settling-start, settling-minimizable, settling-slot, settling-turn, settling-end}
 use Rattle.least.proofs.settle.Statement.{statement}
 use Rattle.least.proofs.settle.Tie as tie
 
@@ -20,7 +20,7 @@ pub settle-spec : {M : Type 1} → statement M
 settle-spec =
     tie.close (tie.spec Inv-loop μ-loop (λ c κs. (c .before .before .pre .before .complete .table .few, refl))
     (λ c. settling-start (c .before .before .before .pre) (c .later .ensures))
-    (λ c. omega (arith, settling-few (c .before .loop .inv))) (λ c. omega (arith, settling-few (c .before .loop .inv)))
+    (λ c. omega arith) (λ c. omega arith)
     (λ c κs. let t = c .before .before in settling-minimizable (t .before .loop .inv) (t .loop-test .taken))
     (λ c κs. let t = at-turn c in settling-slot (t .before .loop .inv) (t .loop-test .taken) (c .minimize .ensures))
     (λ c. omega arith) (λ c. omega arith)
