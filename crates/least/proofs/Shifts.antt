@@ -58,7 +58,7 @@ module _ {w o p : List ℕ} {f x fixed : ℕ} (K : Fixed w o p f x fixed) where
       let C = K .complete in
       barred w o p (with f (at p x)) (leave-table w o p f C x (K .known)) q Q fixed t S A x (K .known) (leave-exposed w o p f C x (K .known))
 
--- x moves twice
+-- a plan that leaves the slots of `fixed` to their holders does so when x has moved; two moves are one
 pub agrees-after : {w o₀ o p : List ℕ} {f x may fixed s : ℕ} → Shifted w o₀ x may fixed o p f s → (q : List ℕ) → Agrees o₀ fixed q → Agrees o fixed q
 agrees-after G q A k h c = ap (at q) (G .keeps k h c .1) ∙ A k h c
 
