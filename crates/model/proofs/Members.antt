@@ -4,7 +4,7 @@ use mathlib.Core.Logic.{_≢_, _⊎_, inl, inr}
 use mathlib.Core.Bool.{Bool, true, false, not, cond, _&&_, _||_, and-eq-true-iff, and-assoc}
 use mathlib.Core.List.{List, [], _∷_, _++_, flatMap, List·Memᴰ, List·Memᴰ·head, List·Memᴰ·tail, List·Memᴰ·not-nil, List·Memᴰ·cases-cons, List·Memᴰ·append-cases}
 use mathlib.Core.List.{Memᴰ·append-left, Memᴰ·append-right}
-use Prim.Native.Nat.{ℕ, zero, suc, _<_}
+use Prim.Native.Nat.{ℕ, zero, suc, _<_, _≤_}
 use native.Mathlib.Nat.{suc-inj}
 use native.Mathlib.Omega.{arith}
 use borrow.Author.Tests.{eq-eqb, eqb-true}
@@ -92,6 +92,15 @@ module _ {A : Type 0} (f : A → Bool) where
   unfolding keep
   keep-all [] h = refl
   keep-all (x ∷ l) h = rw (h x (List·Memᴰ·head refl)) (ap (x ∷_) (keep-all l (λ y m. h y (List·Memᴰ·tail m))))
+
+  pub keep-le : (l : List A) → length (keep f l) ≤ length l
+  unfolding keep
+  keep-le [] = omega arith
+  keep-le (x ∷ l) = go (f x) (keep-le l)
+    where
+      go : (b : Bool) → length (keep f l) ≤ length l → length (cond b (x ∷ keep f l) (keep f l)) ≤ suc (length l)
+      go true h = omega arith
+      go false h = omega arith
 
   pub any-into : {x : A} (l : List A) → List·Memᴰ x l → T (f x) → T (any f l)
   unfolding any

@@ -46,6 +46,10 @@ pub members-into : {x : ℕ} (n set : ℕ) → x < n → bit set x ≡ 1 → Lis
 unfolding members
 members-into {x} n set h e = keep-into (has set) (below n) (below-into n h) (has-in set x e)
 
+pub length-members : (n set : ℕ) → set < 2 ^ n → length (members n set) ≡ ones set
+unfolding members sum
+length-members n set h = sym (ones-sum n set h ∙ total-tests (has set) (bit set) (below n) (λ j m. bit-is set j))
+
 -- ---- unions
 
 pub union-into : {w : ℕ} (l : List ℕ) → List·Memᴰ w l → (j : ℕ) → bit w j ≤ bit (union l) j

@@ -16,7 +16,7 @@ use Rattle.words.specs.Word.{bit, with, without, low, minus, lowest}
 use Rattle.words.specs.Sum.{sum}
 use Rattle.words.proofs.Bits.{ext, half-lt, bit-lt, bit-cases, bit-zero, bit-suc, bit-half, bit-empty, bit-high, bit-and, bit-and-mul, bit-or, bit-not}
 use Rattle.words.proofs.Bits.{bit-minus, bit-low, bit-low-high, low-lt, bit-single, bit-single-other, bit-with, bit-with-other, bit-without, at-slot}
-use Rattle.words.proofs.Bits.{bit-without-other, without-zero, without-suc, without-le, with-lt}
+use Rattle.words.proofs.Bits.{bit-without-other, without-zero, without-suc, without-le, with-zero, with-suc, with-lt}
 use Rattle.words.proofs.Sums.{sum-front, sum-cong, sum-le, sum-add, sum-none, sum-pick}
 
 -- ---- sizes
@@ -41,6 +41,14 @@ ones-without w zero e =
 ones-without w (suc j) e =
     let half : without w (suc j) / 2 ≡ without (w / 2) j = omega (arith, without-suc w j) in
     omega (arith, ones-step w, ones-step (without w (suc j)), without-suc w j, ap ones half, ones-without (w / 2) j (sym (bit-suc w j) ∙ e))
+
+pub ones-with : (w j : ℕ) → bit w j ≡ 0 → ones (with w j) ≡ suc (ones w)
+ones-with w zero e =
+    let half : with w 0 / 2 ≡ w / 2 = omega (arith, with-zero w) in
+    omega (arith, ones-step w, ones-step (with w 0), with-zero w, ap ones half, bit-zero w)
+ones-with w (suc j) e =
+    let half : with w (suc j) / 2 ≡ with (w / 2) j = omega (arith, with-suc w j) in
+    omega (arith, ones-step w, ones-step (with w (suc j)), with-suc w j, ap ones half, ones-with (w / 2) j (sym (bit-suc w j) ∙ e))
 
 -- two words have as many slots together as two others that have as many at each
 ones-together : (k a b c d : ℕ) → a < 2 ^ k → b < 2 ^ k → c < 2 ^ k → d < 2 ^ k → ((j : ℕ) → j < k → bit a j + bit b j ≡ bit c j + bit d j)

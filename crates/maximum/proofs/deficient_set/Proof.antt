@@ -2,7 +2,7 @@
 use Prim.Native.Nat.{_^_, _<_}
 use borrow.Author.Needs.{needs}
 use lib.Pow.{pow-lt}
-use Rattle.words.proofs.Bits.{or-single}
+use Rattle.words.proofs.SetLaws.{or-single}
 use Rattle.model.proofs.Walks.{Joining, JoinTurn, joining-start, joining-turn, joining-end}
 use Rattle.augment.specs.Table.{own}
 use Rattle.maximum.specs.Maximum.{holders}
