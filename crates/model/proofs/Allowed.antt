@@ -54,10 +54,8 @@ module _ (m : ℕ) (opens : List ℕ) where
         → ((p : List ℕ) → IsPlan opens p → bit u (getD p i 0) ≡ 1) → allowedWord m opens i ≡ u
     allowed-by i u h lt some all =
         ext m (allowedWord m opens i) u (allowed-lt i h) lt (λ j l. elim (bit-cases u j) [
-          | inl b ↦ elim (bit-cases (allowedWord m opens i) j) [
-            | inl a ↦ a ∙ sym b
-            | inr a ↦ let r = allowed-from i j a in absurd (omega (arith, rw (r .2) at (all (r .0) (r .1))))
-          ]
+          | inl b ↦ elim (bit-cases (allowedWord m opens i) j)
+              [ inl a ↦ a ∙ sym b | inr a ↦ let r = allowed-from i j a in absurd (omega (arith, rw (r .2) at (all (r .0) (r .1)))) ]
           | inr b ↦ let r = some j b in (rw (r .2) at (allowed-into (r .0) (r .1) i)) ∙ sym b
         ])
 

@@ -24,10 +24,8 @@ module _ {A : Type 0} (f : A → ℕ) where
   pub greatest-some : (x : A) (l : List A) → (y : A) × List·Memᴰ y (x ∷ l) × (f y ≡ greatest (map f (x ∷ l)))
   unfolding greatest
   greatest-some x [] = (x, List·Memᴰ·head refl, omega arith)
-  greatest-some x (z ∷ l) = let r = greatest-some z l in elim (decLe (greatest (map f (z ∷ l))) (f x)) [
-    | yes h ↦ (x, List·Memᴰ·head refl, omega arith)
-    | no h ↦ (r .0, List·Memᴰ·tail (r .1), omega (arith, r .2))
-  ]
+  greatest-some x (z ∷ l) = let r = greatest-some z l in elim (decLe (greatest (map f (z ∷ l))) (f x))
+      [ yes h ↦ (x, List·Memᴰ·head refl, omega arith) | no h ↦ (r .0, List·Memᴰ·tail (r .1), omega (arith, r .2)) ]
 
   pub greatest-is : (l : List A) (x : A) → List·Memᴰ x l → ((y : A) → List·Memᴰ y l → f y ≤ f x) → greatest (map f l) ≡ f x
   greatest-is [] x m h = absurd (List·Memᴰ·not-nil m)
@@ -42,10 +40,8 @@ module _ {A : Type 0} (f : A → ℕ) where
   pub least-some : (x : A) (l : List A) → (y : A) × List·Memᴰ y (x ∷ l) × (f y ≡ least (map f (x ∷ l)))
   unfolding least
   least-some x [] = (x, List·Memᴰ·head refl, refl)
-  least-some x (z ∷ l) = let r = least-some z l in elim (decLe (f x) (least (map f (z ∷ l)))) [
-    | yes h ↦ (x, List·Memᴰ·head refl, omega arith)
-    | no h ↦ (r .0, List·Memᴰ·tail (r .1), omega (arith, r .2))
-  ]
+  least-some x (z ∷ l) = let r = least-some z l in elim (decLe (f x) (least (map f (z ∷ l))))
+      [ yes h ↦ (x, List·Memᴰ·head refl, omega arith) | no h ↦ (r .0, List·Memᴰ·tail (r .1), omega (arith, r .2)) ]
 
   pub least-is : (l : List A) (x : A) → List·Memᴰ x l → ((y : A) → List·Memᴰ y l → f x ≤ f y) → least (map f l) ≡ f x
   least-is [] x m h = absurd (List·Memᴰ·not-nil m)

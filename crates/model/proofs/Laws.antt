@@ -109,8 +109,7 @@ module _ (m : ℕ) (opens : List ℕ) (few : length opens ≤ 64) (range : (i : 
 
   -- ---- fewest callouts
 
-  pub fewest-of-none : (callouts : List ℕ) (cap : ℕ) → ((p : List ℕ) → IsPlan opens p → ⊥)
-      → fewestFrom m opens callouts cap ≡ noPlan opens
+  pub fewest-of-none : (callouts : List ℕ) (cap : ℕ) → ((p : List ℕ) → IsPlan opens p → ⊥) → fewestFrom m opens callouts cap ≡ noPlan opens
   unfolding fewestFrom fewestOf fewestPlans keep
   fewest-of-none callouts cap f =
       ap (λ l. fewestOf opens cap (fewest m opens callouts) (keep (λ p. eqb (calloutsOf callouts p) (fewest m opens callouts)) l)) (no-plans f)

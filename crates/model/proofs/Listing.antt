@@ -41,10 +41,8 @@ module _ (none : PlanAnswer) (l : List (List ℕ)) (k : ℕ) where
 
   -- with no plan left the call is refused
   call-refused : ((none .code ≡ 0) → ⊥) → length l ≤ k → (callAnswer none l k .code ≡ 0) → ⊥
-  call-refused d h c = elim (ℕ-discrete (length l) 0) [
-    | yes z ↦ d (rw (call-none z) at c)
-    | no z ↦ let e : _≡_ {A = ℕ} 10 0 = rw (call-end h (omega arith)) at c in omega arith
-  ]
+  call-refused d h c = elim (ℕ-discrete (length l) 0)
+      [ yes z ↦ d (rw (call-none z) at c) | no z ↦ let e : _≡_ {A = ℕ} 10 0 = rw (call-end h (omega arith)) at c in omega arith ]
 
 call-fresh : (none : PlanAnswer) (l : List (List ℕ)) (k : ℕ) → min k (length l) ≡ 0 → firstOr none l ≡ callAnswer none l k
 unfolding firstOr
@@ -100,14 +98,14 @@ module _ (own : Lister → PlanAnswer) (none : PlanAnswer) (l : List (List ℕ))
   from-on : (calls : List Made) (k : ℕ) (s : Lister) → s ≡ stateAt k → Chained own s calls → FromOn k (leftBy s calls) (ownAnswers calls)
   unfolding ownAnswers leftBy upFrom
   from-on [] k s q r = (refl, q ∙ ap stateAt (sym (add-zero k)))
-  from-on (c ∷ calls) k s q r = go (from-on calls) (c .ours) (r .0)
-    where
-      go : ((k : ℕ) (s : Lister) → s ≡ stateAt k → Chained own s calls → FromOn k (leftBy s calls) (ownAnswers calls))
-          → (b : Bool) → Answered own b s (c .answer) → FromOn k (leftBy (c .after) calls) (cond b (c .answer ∷ ownAnswers calls) (ownAnswers calls))
-      go ih true a =
-          let t = ih (suc k) (c .after) (r .1 ∙ ap₂ stored q (a ∙ ap own q) ∙ after-at k) (r .2) in
-          (ap₂ _∷_ (a ∙ ap own q ∙ answer-at k) (t .0), t .1 ∙ ap stateAt (suc-add k (length (ownAnswers calls)) ∙ sym (add-suc k (length (ownAnswers calls)))))
-      go ih false a = ih k (c .after) (r .1 ∙ refused-keeps s (c .answer) a ∙ q) (r .2)
+  from-on (c ∷ calls) k s q r =
+      let count = length (ownAnswers calls) in
+      elim (c .ours) as (λ b. Answered own b s (c .answer) → FromOn k (leftBy (c .after) calls) (cond b (c .answer ∷ ownAnswers calls) (ownAnswers calls))) [
+        | true ↦ λ a.
+            let t = from-on calls (suc k) (c .after) (r .1 ∙ ap₂ stored q (a ∙ ap own q) ∙ after-at k) (r .2) in
+            (ap₂ _∷_ (a ∙ ap own q ∙ answer-at k) (t .0), t .1 ∙ ap stateAt (suc-add k count ∙ sym (add-suc k count)))
+        | false ↦ λ a. from-on calls k (c .after) (r .1 ∙ refused-keeps s (c .answer) a ∙ q) (r .2)
+      ] (r .0)
 
   begins : e ≡ stateAt 0
   unfolding holding
@@ -126,10 +124,8 @@ module _ (own : Lister → PlanAnswer) (none : PlanAnswer) (l : List (List ℕ))
     gives-none h c = call-refused none l k (L .refuses) h (sym (ap (λ a. a .code) (ap own q ∙ answer-at k)) ∙ c)
 
   listing-is : (p : List (List ℕ)) (k : ℕ) (s : Lister) → s ≡ stateAt k → IsListing own s p → p ≡ drop k l
-  listing-is [] k s q r = elim (decLt k (length l)) [
-    | yes h ↦ absurd (r (ap (λ a. a .code) (gives-plan k s q h)))
-    | no h ↦ sym (drop-of-length-le l {i = k} (omega arith))
-  ]
+  listing-is [] k s q r = elim (decLt k (length l))
+      [ yes h ↦ absurd (r (ap (λ a. a .code) (gives-plan k s q h))) | no h ↦ sym (drop-of-length-le l {i = k} (omega arith)) ]
   listing-is (p ∷ rest) k s q r = elim (decLt k (length l)) [
     | yes h ↦
         ap₂ _∷_ (ap (λ a. a .plan .slots) (sym (r .0) ∙ gives-plan k s q h)) (listing-is rest (suc k) (stored s (own s)) (after-here k s q) (r .1))
@@ -138,8 +134,7 @@ module _ (own : Lister → PlanAnswer) (none : PlanAnswer) (l : List (List ℕ))
   ]
 
   is-listing : (p : List (List ℕ)) (k : ℕ) (s : Lister) → s ≡ stateAt k → p ≡ drop k l → IsListing own s p
-  is-listing [] k s q e =
-      gives-none k s q (elim (decLt k (length l)) [ yes h ↦ absurd (nil≢cons (e ∙ drop-cons l k [] h)) | no h ↦ omega arith ])
+  is-listing [] k s q e = gives-none k s q (elim (decLt k (length l)) [ yes h ↦ absurd (nil≢cons (e ∙ drop-cons l k [] h)) | no h ↦ omega arith ])
   is-listing (p ∷ rest) k s q e = elim (decLt k (length l)) [
     | yes h ↦
         let c = e ∙ drop-cons l k [] h in (

@@ -105,18 +105,13 @@ module _ {A : Type 0} (f : A → Bool) where
   pub any-into : {x : A} (l : List A) → List·Memᴰ x l → T (f x) → T (any f l)
   unfolding any
   any-into [] h t = absurd (List·Memᴰ·not-nil h)
-  any-into (y ∷ l) h t = elim (List·Memᴰ·cases-cons h) [
-    | inl e ↦ or-left (f y) (any f l) (rw e at t)
-    | inr k ↦ or-right (f y) (any f l) (any-into l k t)
-  ]
+  any-into (y ∷ l) h t = elim (List·Memᴰ·cases-cons h) [ inl e ↦ or-left (f y) (any f l) (rw e at t) | inr k ↦ or-right (f y) (any f l) (any-into l k t) ]
 
   pub any-from : (l : List A) → T (any f l) → (x : A) × List·Memᴰ x l × T (f x)
   unfolding any
   any-from [] t = absurd t
-  any-from (y ∷ l) t = elim (or-cases (f y) (any f l) t) [
-    | inl s ↦ (y, List·Memᴰ·head refl, s)
-    | inr s ↦ let r = any-from l s in (r .0, List·Memᴰ·tail (r .1), r .2)
-  ]
+  any-from (y ∷ l) t = elim (or-cases (f y) (any f l) t)
+      [ inl s ↦ (y, List·Memᴰ·head refl, s) | inr s ↦ let r = any-from l s in (r .0, List·Memᴰ·tail (r .1), r .2) ]
 
   pub any-none : (d : A) (l : List A) → any f l ≡ false → (i : ℕ) → i < length l → f (getD l i d) ≡ false
   unfolding any
@@ -150,18 +145,14 @@ module _ {A B : Type 0} (f : A → List B) where
   pub flatMap-from : {y : B} (l : List A) → List·Memᴰ y (flatMap f l) → (x : A) × List·Memᴰ x l × List·Memᴰ y (f x)
   unfolding flatMap
   flatMap-from [] h = absurd (List·Memᴰ·not-nil h)
-  flatMap-from {y} (a ∷ l) h = elim (List·Memᴰ·append-cases (f a) h) [
-    | inl m ↦ (a, List·Memᴰ·head refl, m)
-    | inr m ↦ let r = flatMap-from l m in (r .0, List·Memᴰ·tail (r .1), r .2)
-  ]
+  flatMap-from {y} (a ∷ l) h = elim (List·Memᴰ·append-cases (f a) h)
+      [ inl m ↦ (a, List·Memᴰ·head refl, m) | inr m ↦ let r = flatMap-from l m in (r .0, List·Memᴰ·tail (r .1), r .2) ]
 
   pub flatMap-into : {y : B} {x : A} (l : List A) → List·Memᴰ x l → List·Memᴰ y (f x) → List·Memᴰ y (flatMap f l)
   unfolding flatMap
   flatMap-into [] h m = absurd (List·Memᴰ·not-nil h)
-  flatMap-into {y} {x} (a ∷ l) h m = elim (List·Memᴰ·cases-cons h) [
-    | inl q ↦ Memᴰ·append-left (flatMap f l) (rw q at m)
-    | inr k ↦ Memᴰ·append-right (f a) (flatMap-into l k m)
-  ]
+  flatMap-into {y} {x} (a ∷ l) h m = elim (List·Memᴰ·cases-cons h)
+      [ inl q ↦ Memᴰ·append-left (flatMap f l) (rw q at m) | inr k ↦ Memᴰ·append-right (f a) (flatMap-into l k m) ]
 
 -- ---- by index
 
@@ -172,7 +163,5 @@ mem-at d (x ∷ l) (suc i) h = List·Memᴰ·tail (mem-at d l i (omega arith))
 
 pub place-of : {A : Type 0} {x : A} (d : A) (l : List A) → List·Memᴰ x l → (i : ℕ) × (i < length l) × (getD l i d ≡ x)
 place-of d [] h = absurd (List·Memᴰ·not-nil h)
-place-of {A} {x} d (y ∷ l) h = elim (List·Memᴰ·cases-cons h) [
-  | inl e ↦ (0, omega arith, sym e)
-  | inr m ↦ let r = place-of d l m in (suc (r .0), omega arith, r .2)
-]
+place-of {A} {x} d (y ∷ l) h = elim (List·Memᴰ·cases-cons h)
+    [ inl e ↦ (0, omega arith, sym e) | inr m ↦ let r = place-of d l m in (suc (r .0), omega arith, r .2) ]

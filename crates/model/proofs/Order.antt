@@ -30,10 +30,8 @@ module _ (x y : ℕ) (p q : List ℕ) where
 
   before-cases : Before (x ∷ p) (y ∷ q) → (x < y) ⊎ ((x ≡ y) × Before p q)
   unfolding before
-  before-cases h = elim (or-cases (ltb x y) (eqb x y && before p q) h) [
-    | inl a ↦ inl (ltb→lt x y a)
-    | inr b ↦ inr (eqb→eq x y (both-left (eqb x y) (before p q) b), both-right (eqb x y) (before p q) b)
-  ]
+  before-cases h = elim (or-cases (ltb x y) (eqb x y && before p q) h)
+      [ inl a ↦ inl (ltb→lt x y a) | inr b ↦ inr (eqb→eq x y (both-left (eqb x y) (before p q) b), both-right (eqb x y) (before p q) b) ]
 
 pub before-asym : (p q : List ℕ) → Before p q → Before q p → ⊥
 unfolding before
@@ -57,10 +55,8 @@ before-trichotomy (x ∷ p) (y ∷ q) e = elim (decLt x y) [
   | yes h ↦ inr (inl (before-head x y p q h))
   | no h ↦ elim (decLt y x) [
     | yes k ↦ inr (inr (before-head y x q p k))
-    | no k ↦ let z : x ≡ y = omega arith in elim (before-trichotomy p q (suc-inj e)) [
-      | inl r ↦ inl (ap₂ _∷_ z r)
-      | inr r ↦ inr (elim r [ inl b ↦ inl (before-tail x y p q z b) | inr b ↦ inr (before-tail y x q p (sym z) b) ])
-    ]
+    | no k ↦ let z : x ≡ y = omega arith in elim (before-trichotomy p q (suc-inj e))
+        [ inl r ↦ inl (ap₂ _∷_ z r) | inr r ↦ inr (elim r [ inl b ↦ inl (before-tail x y p q z b) | inr b ↦ inr (before-tail y x q p (sym z) b) ]) ]
   ]
 ]
 
@@ -69,10 +65,8 @@ unfolding before
 before-append [] [] z e h = absurd h
 before-append [] (y ∷ q) z e h = absurd (omega arith)
 before-append (x ∷ p) [] z e h = absurd h
-before-append (x ∷ p) (y ∷ q) z e h = elim (before-cases x y p q h) [
-  | inl a ↦ before-head x y (p ++ z) (q ++ z) a
-  | inr b ↦ before-tail x y (p ++ z) (q ++ z) (b .0) (before-append p q z (suc-inj e) (b .1))
-]
+before-append (x ∷ p) (y ∷ q) z e h = elim (before-cases x y p q h)
+    [ inl a ↦ before-head x y (p ++ z) (q ++ z) a | inr b ↦ before-tail x y (p ++ z) (q ++ z) (b .0) (before-append p q z (suc-inj e) (b .1)) ]
 
 -- by index: the first place at which they differ
 pub before-by : (p q : List ℕ) (i : ℕ) → i < length p → i < length q → ((k : ℕ) → k < i → getD p k 0 ≡ getD q k 0) → getD p i 0 < getD q i 0 → Before p q
@@ -110,10 +104,8 @@ module _ {A : Type 0} (R : A → A → Type 0) where
   pub chain-keep : (f : A → Bool) (l : List A) → Chain R l → Chain R (keep f l)
   unfolding keep
   chain-keep f [] c = tt
-  chain-keep f (x ∷ l) c = elim (f x) as (λ b. Chain R (cond b (x ∷ keep f l) (keep f l))) [
-    | true ↦ (λ y h. c .0 y (keep-from f l h .0), chain-keep f l (c .1))
-    | false ↦ chain-keep f l (c .1)
-  ]
+  chain-keep f (x ∷ l) c = elim (f x) as (λ b. Chain R (cond b (x ∷ keep f l) (keep f l)))
+      [ true ↦ (λ y h. c .0 y (keep-from f l h .0), chain-keep f l (c .1)) | false ↦ chain-keep f l (c .1) ]
 
   pub chain-at : (d : A) (l : List A) → Chain R l → (i k : ℕ) → i < k → k < length l → R (getD l i d) (getD l k d)
   chain-at d [] c i k h g = absurd (omega arith)
@@ -193,10 +185,8 @@ pub least-is-head : (l : List (List ℕ)) (x : List ℕ) → Rising l → List·
 least-is-head [] x r h f = absurd (List·Memᴰ·not-nil h)
 least-is-head (z ∷ l) x r h f = (
   l,
-  ap (_∷ l) (elim (f z (List·Memᴰ·head refl)) [
-    | inl e ↦ e
-    | inr a ↦ elim (List·Memᴰ·cases-cons h) [ inl e ↦ sym e | inr k ↦ absurd (before-asym x z a (r .0 x k)) ]
-  ]),
+  ap (_∷ l) (elim (f z (List·Memᴰ·head refl))
+      [ inl e ↦ e | inr a ↦ elim (List·Memᴰ·cases-cons h) [ inl e ↦ sym e | inr k ↦ absurd (before-asym x z a (r .0 x k)) ] ]),
 )
 
 -- ---- what stands after member k, and how many before
@@ -204,8 +194,7 @@ least-is-head (z ∷ l) x r h f = (
 pub after-member : (l : List (List ℕ)) → Rising l → (k : ℕ) → k < length l → keep (before (getD l k [])) l ≡ drop (suc k) l
 unfolding keep
 after-member [] r k h = absurd (omega arith)
-after-member (y ∷ l) r zero h =
-    rw (is-false (before y y) (before-irrefl y)) (keep-all (before y) l (λ z m. is-true (before y z) (r .0 z m)))
+after-member (y ∷ l) r zero h = rw (is-false (before y y) (before-irrefl y)) (keep-all (before y) l (λ z m. is-true (before y z) (r .0 z m)))
 after-member (y ∷ l) r (suc k) h =
     let x = getD l k [] in
     rw (is-false (before x y) (λ a. before-asym x y a (r .0 x (mem-at [] l k (omega arith))))) (after-member l (r .1) k (omega arith))

@@ -156,7 +156,11 @@ module _ (m : ℕ) (opens : List ℕ) where
         let size : length q ≡ n = length-take-le n p (omega (arith, h .sized)) in
         let at : (i : ℕ) → i < n → getD q i 0 ≡ getD p i 0 = λ i l. getD-take n p i 0 l in
         let cell : (i : ℕ) → i < n → bit (getD opens i 0) (getD q i 0) ≡ 1 = λ i l. ap (bit (getD opens i 0)) (at i l) ∙ h .open-cell i l in
-        subst (λ x. List·Memᴰ x (plans m opens)) (back q size at)
+        let back : padded q ≡ p = ext-getD 0 (padded q) p (padded-length q (omega arith) ∙ sym (h .sized)) (λ i l.
+        let fits : i < 64 = omega (arith, padded-length q (omega arith)) in
+        elim (decLt i n)
+        [ yes g ↦ padded-at q i (omega arith) ∙ at i g | no g ↦ padded-zero q i (omega arith) fits ∙ sym (h .zeros i (omega arith) fits) ]) in
+        subst (λ x. List·Memᴰ x (plans m opens)) back
         (Memᴰ·map padded
         (keep-into (cellsOpen opens) (arrangements n (below m))
         (arrangements-into n (below m) q
@@ -166,14 +170,6 @@ module _ (m : ℕ) (opens : List ℕ) where
           once = λ i j l g e. h .once i j l g (sym (at i l) ∙ e ∙ at j g);
         }))
         (cells-open-by opens q size cell)))
-      where
-        back : (q : List ℕ) → length q ≡ length opens → ((i : ℕ) → i < length opens → getD q i 0 ≡ getD p i 0) → padded q ≡ p
-        back q e at = ext-getD 0 (padded q) p (padded-length q (omega arith) ∙ sym (h .sized)) (λ i l.
-            let fits : i < 64 = omega (arith, padded-length q (omega arith)) in
-            elim (decLt i (length opens)) [
-              | yes g ↦ padded-at q i (omega arith) ∙ at i g
-              | no g ↦ padded-zero q i (omega arith) fits ∙ sym (h .zeros i (omega arith) fits)
-            ])
 
     -- a list is among the plans exactly if it is a complete plan
     pub plans-are : (p : List ℕ) → List·Memᴰ p (plans m opens) ↔ IsPlan opens p

@@ -55,10 +55,8 @@ length-members n set h = sym (ones-sum n set h ∙ total-tests (has set) (bit se
 pub union-into : {w : ℕ} (l : List ℕ) → List·Memᴰ w l → (j : ℕ) → bit w j ≤ bit (union l) j
 unfolding union
 union-into [] h j = absurd (List·Memᴰ·not-nil h)
-union-into {w} (v ∷ l) h j = elim (List·Memᴰ·cases-cons h) [
-  | inl e ↦ omega (arith, bit-or v (union l) j, ap (λ x. bit x j) e)
-  | inr m ↦ omega (arith, bit-or v (union l) j, union-into l m j)
-]
+union-into {w} (v ∷ l) h j = elim (List·Memᴰ·cases-cons h)
+    [ inl e ↦ omega (arith, bit-or v (union l) j, ap (λ x. bit x j) e) | inr m ↦ omega (arith, bit-or v (union l) j, union-into l m j) ]
 
 pub union-from : (l : List ℕ) (j : ℕ) → bit (union l) j ≡ 1 → (w : ℕ) × List·Memᴰ w l × (bit w j ≡ 1)
 unfolding union

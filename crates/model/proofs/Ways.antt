@@ -43,10 +43,8 @@ unfolding keep
 keep-keep f g [] = refl
 keep-keep {A} f g (x ∷ l) =
     let both : List A = keep (λ x. f x && g x) l in
-    elim (f x) as (λ b. keep g (cond b (x ∷ keep f l) (keep f l)) ≡ cond (b && g x) (x ∷ both) both) [
-      | true ↦ ap (λ r. cond (g x) (x ∷ r) r) (keep-keep f g l)
-      | false ↦ keep-keep f g l
-    ]
+    elim (f x) as (λ b. keep g (cond b (x ∷ keep f l) (keep f l)) ≡ cond (b && g x) (x ∷ both) both)
+    [ true ↦ ap (λ r. cond (g x) (x ∷ r) r) (keep-keep f g l) | false ↦ keep-keep f g l ]
 
 pub keep-same : {A : Type 0} (f g : A → Bool) (l : List A) → ((x : A) → f x ≡ g x) → keep f l ≡ keep g l
 keep-same f g l h = ap (λ k. keep k l) (fun-ext h)
@@ -91,11 +89,10 @@ unfolding ways
 ways-cons w opens slots =
     ap length (matchings-cons w opens (length opens) slots)
     ∙ length-flatMap (λ s. cond (has w s) (map (s ∷_) (matchings opens (length opens) (remove s slots))) []) slots
-    ∙ total-same _ _ slots (λ s. step s (has w s) (matchings opens (length opens) (remove s slots)) ∙ ap (_* ways opens (remove s slots)) (sym (bit-is w s)))
-  where
-    step : (s : ℕ) (b : Bool) (l : List (List ℕ)) → length (cond b (map (s ∷_) l) []) ≡ one b * length l
-    step s true l = length-map l (s ∷_) ∙ omega arith
-    step s false l = omega arith
+    ∙ total-same _ _ slots (λ s.
+    let l = matchings opens (length opens) (remove s slots) in
+    (elim (has w s) as (λ b. length (cond b (map (s ∷_) l) []) ≡ one b * length l) [ true ↦ length-map l (s ∷_) ∙ omega arith | false ↦ omega arith ])
+    ∙ ap (_* length l) (sym (bit-is w s)))
 
 -- ---- by the last item
 

@@ -104,8 +104,7 @@ bit-and a b (suc j) =
 
 -- the slots in both, as a product
 pub bit-and-mul : (a b j : ℕ) → bit (bitAnd a b) j ≡ bit a j * bit b j
-bit-and-mul a b j =
-    bit-and a b j ∙ ⊎-elim (λ z. rw z (omega arith)) (λ o. rw o (omega (arith, bit-lt b j))) (bit-cases a j)
+bit-and-mul a b j = bit-and a b j ∙ ⊎-elim (λ z. rw z (omega arith)) (λ o. rw o (omega (arith, bit-lt b j))) (bit-cases a j)
 
 pub bit-or : (a b j : ℕ) → bit (bitOr a b) j ≡ max (bit a j) (bit b j)
 bit-or a b zero = omega (arith, bit-zero (bitOr a b), bit-zero a, bit-zero b, or-step a b)

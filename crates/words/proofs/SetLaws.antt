@@ -149,10 +149,8 @@ bit-not-from a n j h g = omega (arith, bit-minus a (low n) j (lt-of-lt-of-le (lo
 pub has-from : (n w : ℕ) → n ≤ 64 → w < 2 ^ 64 → not (eqb (minus w (low n)) 0) ≡ leb (2 ^ n) w
 has-from n w h l = elim (decLt w (2 ^ n)) [
   | yes a ↦
-      let none : (j : ℕ) → j < 64 → bit (minus w (low n)) j ≡ 0 = λ j b. elim (decLt j n) [
-        | yes d ↦ bit-not-from w n j h d
-        | no d ↦ bit-from w n j h b (omega arith) ∙ bit-high n w j a (omega arith)
-      ] in
+      let none : (j : ℕ) → j < 64 → bit (minus w (low n)) j ≡ 0 = λ j b. elim (decLt j n)
+      [ yes d ↦ bit-not-from w n j h d | no d ↦ bit-from w n j h b (omega arith) ∙ bit-high n w j a (omega arith) ] in
       rw (eq-eqb (minus w (low n)) 0 (empty 64 (minus w (low n)) (lt-of-le-of-lt (minus-le w (low n)) l) none), lt-leb (2 ^ n) w a)
   | no a ↦
       let high : minus w (low n) ≡ 0 → (j : ℕ) → n ≤ j → j < 64 → bit w j ≡ 0 = λ e j d b. sym (bit-from w n j h b d) ∙ ap (λ x. bit x j) e ∙ bit-empty j in
@@ -161,10 +159,8 @@ has-from n w h l = elim (decLt w (2 ^ n)) [
 
 -- a union has a slot if one of the two has
 pub or-some : (a b : ℕ) → not (eqb (bitOr a b) 0) ≡ (not (eqb a 0) || not (eqb b 0))
-or-some a b = elim (ℕ-discrete a 0) [
-  | yes e ↦ rw (e, or-zero-l b)
-  | no d ↦ rw (ne-eqb a 0 d, ne-eqb (bitOr a b) 0 (λ z. d (omega (arith, or-add-and a b, and-le-r a b))))
-]
+or-some a b = elim (ℕ-discrete a 0)
+    [ yes e ↦ rw (e, or-zero-l b) | no d ↦ rw (ne-eqb a 0 d, ne-eqb (bitOr a b) 0 (λ z. d (omega (arith, or-add-and a b, and-le-r a b)))) ]
 
 -- ---- one slot more or less, as the machine makes them
 

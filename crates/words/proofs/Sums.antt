@@ -19,16 +19,13 @@ use Rattle.words.proofs.Bits.{at-slot}
 pub upFrom-from : {x : ℕ} (a n : ℕ) → List·Memᴰ x (upFrom a n) → (a ≤ x) × (x < a + n)
 unfolding upFrom
 upFrom-from a zero h = absurd (List·Memᴰ·not-nil h)
-upFrom-from {x} a (suc n) h = elim (List·Memᴰ·cases-cons h) [
-  | inl q ↦ (omega arith, omega arith)
-  | inr m ↦ let r = upFrom-from (suc a) n m in (omega arith, omega arith)
-]
+upFrom-from {x} a (suc n) h = elim (List·Memᴰ·cases-cons h)
+    [ inl q ↦ (omega arith, omega arith) | inr m ↦ let r = upFrom-from (suc a) n m in (omega arith, omega arith) ]
 
 pub upFrom-into : {x : ℕ} (a n : ℕ) → a ≤ x → x < a + n → List·Memᴰ x (upFrom a n)
 unfolding upFrom
 upFrom-into a zero h k = absurd (omega arith)
-upFrom-into {x} a (suc n) h k =
-    elim (ℕ-discrete x a) [ yes q ↦ List·Memᴰ·head q | no q ↦ List·Memᴰ·tail (upFrom-into (suc a) n (omega arith) (omega arith)) ]
+upFrom-into {x} a (suc n) h k = elim (ℕ-discrete x a) [ yes q ↦ List·Memᴰ·head q | no q ↦ List·Memᴰ·tail (upFrom-into (suc a) n (omega arith) (omega arith)) ]
 
 pub below-from : {x : ℕ} (n : ℕ) → List·Memᴰ x (below n) → x < n
 unfolding below

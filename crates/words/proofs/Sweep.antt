@@ -19,9 +19,7 @@ pub sweep-turn : {size : ℕ} {old new : ℕ → ℕ} {a : List ℕ} {i v : ℕ}
 sweep-turn {size} {old} {new} {a} {i} {v} S h e =
     record {
       sized = length-set a i v ∙ S .sized;
-      done = λ k l. elim (ℕ-discrete k i) [
-        | yes q ↦ rw q (getD-set-same a i v 0 (omega (arith, S .sized)) ∙ e)
-        | no d ↦ getD-set-other a i k v 0 d ∙ S .done k (omega arith)
-      ];
+      done = λ k l. elim (ℕ-discrete k i)
+          [ yes q ↦ rw q (getD-set-same a i v 0 (omega (arith, S .sized)) ∙ e) | no d ↦ getD-set-other a i k v 0 d ∙ S .done k (omega arith) ];
       rest = λ k l. getD-set-other a i k v 0 (λ q. omega arith) ∙ S .rest k (omega arith);
     }
