@@ -63,10 +63,8 @@ module _ (n m : ℕ) (opens callouts : List ℕ) (ok : tableCode n m opens callo
   found-9 : (number : List (List ℕ) → ℕ) → number [] ≡ 9 → ((p : List ℕ) (l : List (List ℕ)) → number (p ∷ l) ≡ 0)
       → FirstOf (test9 opens ∷ []) (number (plans m opens))
   unfolding FirstOf
-  found-9 number e f = elim (plans m opens) as (λ l. plans m opens ≡ l → FirstOf (test9 opens ∷ []) (number l)) [
-    | [] ↦ λ q. inl (none q, e)
-    | p ∷ l ↦ λ q. inr (λ h. h p (first-is p l q .plan), f p l)
-  ] refl
+  found-9 number e f = elim (plans m opens) as (λ l. plans m opens ≡ l → FirstOf (test9 opens ∷ []) (number l))
+      [ [] ↦ λ q. inl (none q, e) | p ∷ l ↦ λ q. inr (λ h. h p (first-is p l q .plan), f p l) ] refl
 
   pub first-tests : FirstOf (test9 opens ∷ []) (firstFrom m opens .code)
   unfolding firstFrom firstOf noPlan

@@ -53,10 +53,8 @@ module _ (n : ℕ) (opens callouts : List ℕ) where
   chained e [] c = tt
   chained e (x ∷ calls) c =
       let kind : Kind n opens callouts (x .ours) (x .call) → Answered own (x .ours) e (x .call .answer) =
-      elim (x .ours) as (λ b. Kind n opens callouts b (x .call) → Answered own b e (x .call .answer)) [
-        | true ↦ answers-as (x .call) e (c .0)
-        | false ↦ λ d. d
-      ] in
+      elim (x .ours) as (λ b. Kind n opens callouts b (x .call) → Answered own b e (x .call .answer))
+      [ true ↦ answers-as (x .call) e (c .0) | false ↦ λ d. d ] in
       (kind (c .1), left-as (x .call) e (c .0), chained (exit (x .call)) calls (c .2))
 
   -- ---- a listing is model's

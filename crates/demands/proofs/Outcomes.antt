@@ -158,10 +158,8 @@ module _ (n : ℕ) (opens callouts : List ℕ) where
       record { some = omega (arith, P); rules = ap (λ x. gradeOf x (someForced opens)) (sym P) }
 
   some-fewest : tableCode n n opens callouts ≡ 0 → (p : List ℕ) (l : List (List ℕ)) → plans n opens ≡ p ∷ l → IsFewest opens callouts (fewest n opens callouts)
-  some-fewest ok p l e = elim (fewestPlans n opens callouts) as (λ f. fewestPlans n opens callouts ≡ f → IsFewest opens callouts (fewest n opens callouts)) [
-    | [] ↦ λ q. absurd (nil≢cons (sym (fewest-empty n opens callouts q) ∙ e))
-    | x ∷ f ↦ λ q. is-fewest n n opens callouts ok x f q
-  ] refl
+  some-fewest ok p l e = elim (fewestPlans n opens callouts) as (λ f. fewestPlans n opens callouts ≡ f → IsFewest opens callouts (fewest n opens callouts))
+      [ [] ↦ λ q. absurd (nil≢cons (sym (fewest-empty n opens callouts q) ∙ e)) | x ∷ f ↦ λ q. is-fewest n n opens callouts ok x f q ] refl
 
   counted-tables : (words : ℕ) → countCode n n opens callouts words ≡ 0 → tableCode n n opens callouts ≡ 0
   unfolding countCode

@@ -58,10 +58,8 @@ less a b = record { yes-so = ltb-true a b; no-so = λ e h. let l = ltb-false a b
 
 some-slot : (k w : ℕ) → w ≤ k → 0 < w → (j : ℕ) × (bit w j ≡ 1)
 some-slot zero w l h = absurd (omega arith)
-some-slot (suc k) w l h = elim (ℕ-discrete (w % 2) 1) [
-  | yes e ↦ (0, bit-zero w ∙ e)
-  | no d ↦ let r = some-slot k (w / 2) (omega arith) (omega arith) in (suc (r .0), bit-suc w (r .0) ∙ r .1)
-]
+some-slot (suc k) w l h = elim (ℕ-discrete (w % 2) 1)
+    [ yes e ↦ (0, bit-zero w ∙ e) | no d ↦ let r = some-slot k (w / 2) (omega arith) (omega arith) in (suc (r .0), bit-suc w (r .0) ∙ r .1) ]
 
 -- a word that is 2 to the power m or more has a slot at m or above
 high-slot : (m w : ℕ) → 2 ^ m ≤ w → (j : ℕ) × (m ≤ j) × (bit w j ≡ 1)
