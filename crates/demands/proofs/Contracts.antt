@@ -85,8 +85,8 @@ unfolding EachWrite
 write-each f κs a r s l = f (a .0) (now (a .1 .0)) (now (a .1 .1 .0)) (now (a .1 .1 .1 .0)) r (now (s .1 .1 .1 .0)) (l .0) (l .1)
 
 pub file-first-each : {Q : List ℕ → List ℕ → ℕ → List ℕ → Type 0}
-    → ((file old : List ℕ) (r : ℕ) (new : List ℕ) → r ≡ fileFirst Edition.One file (length old) .code → new ≡ bufferAfter (fileFirst Edition.One file (length old)) old
-    → Q file old r new) → EachFileFirst Q
+    → ((file old : List ℕ) (r : ℕ) (new : List ℕ) → r ≡ fileFirst Edition.One file (length old) .code
+    → new ≡ bufferAfter (fileFirst Edition.One file (length old)) old → Q file old r new) → EachFileFirst Q
 unfolding EachFileFirst
 file-first-each f κs a r s l = f (now (a .0)) (now (a .1 .0)) r (now (s .1 .0)) (l .0) (l .1)
 
@@ -97,8 +97,8 @@ unfolding EachFileNext
 file-next-each f κs a r s l = f (now (a .0)) (now (a .1 .0)) r (now (s .1 .0)) (l .0) (l .1)
 
 pub file-fewest-each : {Q : List ℕ → List ℕ → ℕ → ℕ → List ℕ → Type 0}
-    → ((file old : List ℕ) (cap r : ℕ) (new : List ℕ) → r ≡ fileFewest Edition.One file (length old) cap .code → new ≡ bufferAfter (fileFewest Edition.One file (length old) cap) old
-    → Q file old cap r new) → EachFileFewest Q
+    → ((file old : List ℕ) (cap r : ℕ) (new : List ℕ) → r ≡ fileFewest Edition.One file (length old) cap .code
+    → new ≡ bufferAfter (fileFewest Edition.One file (length old) cap) old → Q file old cap r new) → EachFileFewest Q
 unfolding EachFileFewest
 file-fewest-each f κs a r s l = f (now (a .0)) (now (a .1 .0)) (a .1 .1 .0) r (now (s .1 .0)) (l .0) (l .1)
 

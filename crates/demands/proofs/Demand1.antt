@@ -90,17 +90,20 @@ module _ (n : ℕ) (opens callouts : List ℕ) where
       test-first (test7 vehicles) 6 _ refl (either _ _ _ _ (equals vehicles 0) (less 10000 vehicles)) _ _ (λ v. price-tests n n opens callouts ok vehicles _)))
 
 module _ (file : List ℕ) where
-  read-says : (o k : List ℕ) → FirstOf (fileTests file (test15 o (itemsIn file) ∷ test15 k (itemsIn file) ∷ [])) (readAnswer Edition.One file (length o) (length k) .code)
+  abbrev n : ℕ
+  n = itemsIn file
+
+  read-says : (o k : List ℕ) → FirstOf (fileTests file (test15 o n ∷ test15 k n ∷ [])) (readAnswer Edition.One file (length o) (length k) .code)
   unfolding readCode
   read-says o k =
       by _ _ _ (read-code Edition.One file (length o) (length k))
-      (file-first file (test15 o (itemsIn file) ∷ test15 k (itemsIn file) ∷ []) _ (λ ok.
-      room-first (test15 k (itemsIn file) ∷ []) _ o (itemsIn file) (λ h. last (test15 k (itemsIn file) ∷ []) _ _ (room-first [] 0 k (itemsIn file) (λ z. none-fits)) refl)))
+      (file-first file (test15 o n ∷ test15 k n ∷ []) _ (λ ok.
+      room-first (test15 k n ∷ []) _ o n (λ h. last (test15 k n ∷ []) _ _ (room-first [] 0 k n (λ z. none-fits)) refl)))
 
   -- a plan call over the file's rota, whose tests after those of the tables are known
   module _ (old : List ℕ) (others : List Test) (call : ℕ → ℕ → List ℕ → List ℕ → PlanAnswer) (found : ℕ)
-      (e : call (itemsIn file) (itemsIn file) (opensIn file) (calloutsIn file) .code ≡ orElse (tableCode (itemsIn file) (itemsIn file) (opensIn file) (calloutsIn file)) found)
-      (f : tableCode (itemsIn file) (itemsIn file) (opensIn file) (calloutsIn file) ≡ 0 → FirstOf others found) where
+      (e : call n n (opensIn file) (calloutsIn file) .code ≡ orElse (tableCode n n (opensIn file) (calloutsIn file)) found)
+      (f : tableCode n n (opensIn file) (calloutsIn file) ≡ 0 → FirstOf others found) where
     on-file-says : FirstOf (fileTests file (test15 old 64 ∷ others)) (onFile Edition.One file (length old) call .code)
     unfolding planFileCode slotsIn
     on-file-says =
@@ -117,24 +120,17 @@ zero-count n opens callouts words =
     let answer : ℕ → CountAnswer = λ c. unless countRefused c (record { code = 0; count = count n opens }) in
     elim (countCode n n opens callouts words) as (λ c. answer c .code ≢ 0 → answer c .count ≡ 0) [ zero ↦ λ d. absurd (d refl) | suc c ↦ λ d. refl ]
 
-module _ (n : ℕ) (opens callouts : List ℕ) where
-  module _ (words : ℕ) where
-    zero-bytes : writeAnswer n n opens callouts words .code ≢ 0 → writeAnswer n n opens callouts words .bytes ≡ 0
-    unfolding writeAnswer unless
-    zero-bytes = go (writeCode n n opens callouts words)
-      where
-        go : (c : ℕ) → unless writeRefused c (record { code = 0; bytes = 512 * blocksFor n }) .code ≢ 0
-            → unless writeRefused c (record { code = 0; bytes = 512 * blocksFor n }) .bytes ≡ 0
-        go zero d = absurd (d refl)
-        go (suc c) d = refl
+zero-bytes : (n : ℕ) (opens callouts : List ℕ) (words : ℕ) → writeAnswer n n opens callouts words .code ≢ 0 → writeAnswer n n opens callouts words .bytes ≡ 0
+unfolding writeAnswer unless
+zero-bytes n opens callouts words =
+    let answer : ℕ → WriteAnswer = λ c. unless writeRefused c (record { code = 0; bytes = 512 * blocksFor n }) in
+    elim (writeCode n n opens callouts words) as (λ c. answer c .code ≢ 0 → answer c .bytes ≡ 0) [ zero ↦ λ d. absurd (d refl) | suc c ↦ λ d. refl ]
 
 zero-items : (file : List ℕ) (o k : ℕ) → readAnswer Edition.One file o k .code ≢ 0 → readAnswer Edition.One file o k .n ≡ 0
 unfolding readAnswer unless
-zero-items file o k = go (readCode Edition.One file o k)
-  where
-    go : (c : ℕ) → unless readRefused c (record { code = 0; n = itemsIn file }) .code ≢ 0 → unless readRefused c (record { code = 0; n = itemsIn file }) .n ≡ 0
-    go zero d = absurd (d refl)
-    go (suc c) d = refl
+zero-items file o k =
+    let answer : ℕ → ReadAnswer = λ c. unless readRefused c (record { code = 0; n = itemsIn file }) in
+    elim (readCode Edition.One file o k) as (λ c. answer c .code ≢ 0 → answer c .n ≡ 0) [ zero ↦ λ d. absurd (d refl) | suc c ↦ λ d. refl ]
 
 -- ---- what it leaves alone
 
@@ -158,15 +154,19 @@ demand1 =
       grade-code = grade-each _ grade-number;
       price-code = price-each _ price-number;
       read-code = read-each (λ file o k r o′ k′ e w x. by _ _ _ (ap (λ x. x .code) e) (read-says file o k));
-      write-code = write-each (λ n o k old r new e w. by _ _ _ (ap (λ x. x .code) e ∙ write-code n n o k (length old)) (room-says n o k old (512 * blocksFor n)));
-      file-first-code = file-first-each (λ file old r new e w. by _ _ _ e (on-file-says file old (test9 (opensIn file) ∷ []) firstAnswer _
-          (first-code (itemsIn file) (itemsIn file) (opensIn file) (calloutsIn file)) (first-tests (itemsIn file) (itemsIn file) (opensIn file) (calloutsIn file))));
-      file-next-code = file-next-each (λ file old r new e w. by _ _ _ e (on-file-says file old (test8 (opensIn file) (take 64 old) ∷ test10 (opensIn file) (take 64 old) ∷ [])
-          (λ n m o k. nextAnswer n m o k (record { slots = take 64 old })) _ (next-code (itemsIn file) (itemsIn file) (opensIn file) (calloutsIn file) (record { slots = take 64 old }))
-          (λ ok. next-tests (itemsIn file) (itemsIn file) (opensIn file) (calloutsIn file) ok (take 64 old))));
-      file-fewest-code = file-fewest-each (λ file old cap r new e w. by _ _ _ e (on-file-says file old (test9 (opensIn file) ∷ test11 (opensIn file) (calloutsIn file) cap ∷ [])
-          (λ n m o k. fewestAnswer n m o k cap) _ (fewest-code (itemsIn file) (itemsIn file) (opensIn file) (calloutsIn file) cap)
-          (λ ok. fewest-tests (itemsIn file) (itemsIn file) (opensIn file) (calloutsIn file) ok cap)));
+      write-code = write-each (λ n o k old r new e w.
+          by _ _ _ (ap (λ x. x .code) e ∙ write-code n n o k (length old)) (room-says n o k old (512 * blocksFor n)));
+      file-first-code = file-first-each (λ file old r new e w.
+          let n = itemsIn file in let o = opensIn file in let k = calloutsIn file in
+          by _ _ _ e (on-file-says file old (test9 o ∷ []) firstAnswer _ (first-code n n o k) (first-tests n n o k)));
+      file-next-code = file-next-each (λ file old r new e w.
+          let n = itemsIn file in let o = opensIn file in let k = calloutsIn file in let p = take 64 old in
+          by _ _ _ e (on-file-says file old (test8 o p ∷ test10 o p ∷ []) (λ n m o k. nextAnswer n m o k (record { slots = p })) _
+          (next-code n n o k (record { slots = p })) (λ ok. next-tests n n o k ok p)));
+      file-fewest-code = file-fewest-each (λ file old cap r new e w.
+          let n = itemsIn file in let o = opensIn file in let k = calloutsIn file in
+          by _ _ _ e (on-file-says file old (test9 o ∷ test11 o k cap ∷ []) (λ n m o k. fewestAnswer n m o k cap) _
+          (fewest-code n n o k cap) (λ ok. fewest-tests n n o k ok cap)));
       first-refused = first-each _ (λ n o k. first-says n o k .on-refusal);
       next-refused = next-each _ (λ n o k g. next-says n o k g .on-refusal);
       list-refused = list-each _ (λ e n o k. list-says n o k e .on-refusal);

@@ -7,6 +7,7 @@ use native.Mathlib.Omega.{arith}
 use lib.ListN.{length, getD, take, drop}
 use lib.Seq.{take-at}
 use Rattle.words.specs.Word.{bit}
+use Rattle.model.specs.declared.Plan.{Plan}
 use Rattle.model.specs.declared.PlanAnswer.{PlanAnswer}
 use Rattle.model.specs.Refusal.{unless, written}
 use Rattle.model.specs.Rota.{tableCode}
@@ -20,7 +21,8 @@ use Rattle.model.specs.PlanAnswers.{refused, firstAnswer, nextAnswer, fewestAns
 use Rattle.model.specs.UsableAnswers.{usableCode, usableAfter}
 use Rattle.model.specs.CountAnswers.{countCode, countAnswer, countTally}
 use Rattle.model.specs.PriceAnswers.{gradeTally, priceTally}
-use Rattle.model.specs.FileAnswers.{readAnswer, readOpens, readCallouts, writeAnswer, writeFile, planFileCode, onFile, fileFirst, fileNext, fileFewest, bufferAfter}
+use Rattle.model.specs.FileAnswers.{readAnswer, readOpens, readCallouts, writeAnswer, writeFile}
+use Rattle.model.specs.FileAnswers.{planFileCode, onFile, fileFirst, fileNext, fileFewest, bufferAfter}
 use Rattle.model.proofs.Refusals.{neither-refuses, accepted-answer, all-written}
 use Rattle.model.proofs.Codes.{count-code, on-file-code}
 use Rattle.model.proofs.Accepted.{tables-from}
@@ -85,10 +87,6 @@ module _ (file old : List ℕ) (call : PlanCall) (r : ℕ) (new : List ℕ) (e :
   unfolding onFile slotsIn
   file-answer = sym (accepted-answer (planFileCode Edition.One file (length old)) (both .0) refused answer)
 
-  file-tables : tableCode (itemsIn file) (itemsIn file) (opensIn file) (calloutsIn file) ≡ 0
-  unfolding planFileCode slotsIn
-  file-tables = accepted-file Edition.One file (neither-refuses (fileCode Edition.One file) _ (both .0) .0)
-
   -- the buffer has the answer's plan, a record of 64 bytes, and keeps the rest
   in-buffer : (P : List ℕ → Type 0) → length (answer .plan .slots) ≡ 64 → P (answer .plan .slots) → P (take 64 new) × (drop 64 new ≡ drop 64 old)
   unfolding bufferAfter
@@ -122,13 +120,15 @@ demand2 =
           let f = first-says (itemsIn file) (opensIn file) (calloutsIn file) .on-success (both file old firstAnswer r new e w z .1) .0 in
           in-buffer file old firstAnswer r new e w z (IsFirst (opensIn file)) (f .plan .sized) f);
       file-next = file-next-each (λ file old r new e w z.
-          let call : PlanCall = λ n m o k. nextAnswer n m o k (record { slots = take 64 old }) in
-          let f = next-says (itemsIn file) (opensIn file) (calloutsIn file) (record { slots = take 64 old }) .on-success (both file old call r new e w z .1) .0 in
+          let given : Plan = record { slots = take 64 old } in
+          let call : PlanCall = λ n m o k. nextAnswer n m o k given in
+          let f = next-says (itemsIn file) (opensIn file) (calloutsIn file) given .on-success (both file old call r new e w z .1) .0 in
           in-buffer file old call r new e w z (IsNext (opensIn file) (take 64 old)) (f .plan .sized) f);
       file-fewest = file-fewest-each (λ file old cap r new e w z.
+          let o = opensIn file in let k = calloutsIn file in
           let call : PlanCall = λ n m o k. fewestAnswer n m o k cap in
-          let f = fewest-says (itemsIn file) (opensIn file) (calloutsIn file) cap .on-success (both file old call r new e w z .1) in
-          in-buffer file old call r new e w z (λ p. (number : ℕ) × IsFewestPlan (opensIn file) (calloutsIn file) p number × (number ≤ cap)) (f .0 .plan .sized) (_, f .0, f .1));
+          let f = fewest-says (itemsIn file) o k cap .on-success (both file old call r new e w z .1) in
+          in-buffer file old call r new e w z (λ p. (number : ℕ) × IsFewestPlan o k p number × (number ≤ cap)) (f .0 .plan .sized) (_, f .0, f .1));
       write-read = write-each (λ n opens callouts old w new e b z wide.
           read-each (λ file o k r o′ k′ q to tk same ho hk.
           let few = tables-from n n opens callouts (write-passed n n opens callouts (length old) w e z .1) .few-items in

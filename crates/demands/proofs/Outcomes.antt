@@ -71,9 +71,9 @@ outcome P refusal zero make [] h stop none some = none refl refl
 outcome P refusal zero make (p ∷ l) h stop none some = some refl p l refl
 outcome P refusal (suc c) make l h stop none some = stop c (omega arith)
 
-either : {A : Type 0} (P : A → Type 0) (b : Bool) {x y : A} → (b ≡ true → P x) → (b ≡ false → P y) → P (cond b x y)
-either P true f g = f refl
-either P false f g = g refl
+of-cond : {A : Type 0} (P : A → Type 0) (b : Bool) {x y : A} → (b ≡ true → P x) → (b ≡ false → P y) → P (cond b x y)
+of-cond P true f g = f refl
+of-cond P false f g = g refl
 
 is-short : (n : ℕ) (opens callouts : List ℕ) → tableCode n n opens callouts ≡ 0 → plans n opens ≡ [] → IsShort opens (deficiency opens) (deficientSet opens)
 is-short n opens callouts ok = short-is n n opens callouts ok (tables-from n n opens callouts ok .few-items)
@@ -127,14 +127,14 @@ module _ (n : ℕ) (opens callouts : List ℕ) where
       let no-plan : is ≡ false → Says opens _ _ (refused 8) = λ y. says-refused 7 (λ e. omega arith) (omega arith) in
       outcome (Says opens _ _) refused (tableCode n n opens callouts) (λ l. cond is (nextOf l) (refused 8)) (plansAfter n opens (g .slots))
       (table-low n opens callouts) low
-      (λ ok e. either (Says opens _ _) is (λ y. says-refused 9 (λ e. omega arith) (omega arith)) no-plan)
-      (λ ok p l e. either (Says opens _ _) is (λ y. says-given (next-is n n opens callouts ok (g .slots) p l e, refl, refl, refl)) no-plan)
+      (λ ok e. of-cond (Says opens _ _) is (λ y. says-refused 9 (λ e. omega arith) (omega arith)) no-plan)
+      (λ ok p l e. of-cond (Says opens _ _) is (λ y. says-given (next-is n n opens callouts ok (g .slots) p l e, refl, refl, refl)) no-plan)
 
   -- fresh as the first plan, started as the next
   pub list-says : (e : Lister) → Says opens (λ a. (a .shortage ≡ 0) × (a .items ≡ 0) × (a .callouts ≡ 0)) (λ k. ⊥) (listerAnswer e n n opens callouts)
   unfolding listerAnswer
   list-says e =
-      either (Says opens _ _) (e .started)
+      of-cond (Says opens _ _) (e .started)
       (λ y. weaker (next-says (e .plan)) (λ g. (g .1, g .2, g .3))) (λ y. weaker first-says (λ g. (g .1, g .2, g .3)))
 
   pub fewest-says : (cap : ℕ) → Says opens
@@ -145,7 +145,7 @@ module _ (n : ℕ) (opens callouts : List ℕ) where
       let number = fewest n opens callouts in
       outcome (Says opens _ _) refused (tableCode n n opens callouts) (fewestOf opens cap number) (fewestPlans n opens callouts)
       (table-low n opens callouts) low (λ ok e. says-short (is-short n opens callouts ok (fewest-empty n opens callouts e)))
-      (λ ok p l e. either (Says opens _ _) (leb number cap) (λ y. says-given (fewest-is n n opens callouts ok p l e, leb-true number cap y, refl, refl))
+      (λ ok p l e. of-cond (Says opens _ _) (leb number cap) (λ y. says-given (fewest-is n n opens callouts ok p l e, leb-true number cap y, refl, refl))
       (λ y. says-over (is-fewest n n opens callouts ok p l e)))
 
 -- ---- grade and price

@@ -7,14 +7,14 @@ use Rattle.words.specs.Sum.{total}
 use Rattle.model.specs.declared.Edition.{Edition}
 use Rattle.model.specs.File.{mark, header, checkOf, itemsIn, slotsIn}
 
-pub one-fields : (e : Edition) (n m b k : ℕ) → mark ++ (1 ∷ n ∷ b ∷ k ∷ 0 ∷ 0 ∷ 0 ∷ 0 ∷ 0 ∷ 0 ∷ []) ≡ header e n m b k
+pub fields-are : (e : Edition) (n m b k : ℕ) → mark ++ (1 ∷ n ∷ b ∷ k ∷ 0 ∷ 0 ∷ 0 ∷ 0 ∷ 0 ∷ 0 ∷ []) ≡ header e n m b k
 unfolding header
-one-fields Edition.One n m b k = refl
+fields-are Edition.One n m b k = refl
 
-pub one-check : (e : Edition) (bytes : List ℕ) → total (λ b. b) bytes % 65536 ≡ checkOf e bytes
+pub check-is : (e : Edition) (bytes : List ℕ) → total (λ b. b) bytes % 65536 ≡ checkOf e bytes
 unfolding checkOf
-one-check Edition.One bytes = refl
+check-is Edition.One bytes = refl
 
-pub one-slots : (e : Edition) (file : List ℕ) → getD file 5 0 ≡ slotsIn e file
+pub slots-are : (e : Edition) (file : List ℕ) → getD file 5 0 ≡ slotsIn e file
 unfolding slotsIn itemsIn
-one-slots Edition.One file = refl
+slots-are Edition.One file = refl
