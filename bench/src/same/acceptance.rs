@@ -30,8 +30,8 @@ pub fn cell_code(m: usize, opens: &[u64], callouts: &[u64]) -> u32 {
     first_code(beyond, closed)
 }
 
-// 1, 2, 3, 4 or 0 of a rota of n items and n slots.
-pub fn table_code(n: usize, opens: &[u64], callouts: &[u64]) -> u32 {
+// 1, 2, 3, 4 or 0 of a rota of n items and m slots. More than 64 items are refused before m is used.
+pub fn table_code(n: usize, m: usize, opens: &[u64], callouts: &[u64]) -> u32 {
     if n == 0 {
         return 1;
     }
@@ -44,7 +44,7 @@ pub fn table_code(n: usize, opens: &[u64], callouts: &[u64]) -> u32 {
     if callouts.len() != n {
         return 2;
     }
-    cell_code(n, opens, callouts)
+    cell_code(m, opens, callouts)
 }
 
 // 5 or 0, for m slots.
@@ -75,21 +75,21 @@ pub fn fleet_code(vehicles: u64) -> u32 {
 }
 
 // 1 to 6 or 0, for a tally of so many words.
-pub fn count_code(n: usize, opens: &[u64], callouts: &[u64], tally: usize) -> u32 {
-    let table = table_code(n, opens, callouts);
+pub fn count_code(n: usize, m: usize, opens: &[u64], callouts: &[u64], tally: usize) -> u32 {
+    let table = table_code(n, m, opens, callouts);
     if table != 0 {
         return table;
     }
-    let size = size_code(n);
+    let size = size_code(m);
     if size != 0 {
         return size;
     }
-    tally_code(n, tally)
+    tally_code(m, tally)
 }
 
 // 1 to 7 or 0.
-pub fn price_code(n: usize, opens: &[u64], callouts: &[u64], vehicles: u64, tally: usize) -> u32 {
-    let code = count_code(n, opens, callouts, tally);
+pub fn price_code(n: usize, m: usize, opens: &[u64], callouts: &[u64], vehicles: u64, tally: usize) -> u32 {
+    let code = count_code(n, m, opens, callouts, tally);
     if code != 0 {
         return code;
     }

@@ -2,17 +2,18 @@
 //! comes first, then that for the buffer's room, then the search's; an accepted file's tables need no further test.
 
 use crate::records::Plan;
-use crate::same::rota_file::FileRota;
-use crate::same::{least, min_cost, next, rota_file};
+use crate::same::file_reading::FileRota;
+use crate::same::model::Edition;
+use crate::same::{file_reading, least, min_cost, next};
 
 // The rota in a file, for a plan buffer of so many bytes: the file's refusals, then 15.
-fn rota_for(file: &[u8], places: usize) -> FileRota {
-    let found = rota_file::rota_in(file);
+fn rota_for(edition: Edition, file: &[u8], places: usize) -> FileRota {
+    let found = file_reading::rota_in(edition, file);
     if found.code != 0 {
         return found;
     }
     if places < 64 {
-        return rota_file::no_rota(15);
+        return file_reading::no_rota(15);
     }
     found
 }
@@ -35,7 +36,7 @@ fn store_plan(code: u32, slots: [u8; 64], buffer: &mut [u8]) -> u32 {
 
 // The first plan of the rota in a file, into a plan buffer.
 pub fn rota_file_first_plan(file: &[u8], plan: &mut [u8]) -> u32 {
-    let found = rota_for(file, plan.len());
+    let found = rota_for(Edition::One, file, plan.len());
     if found.code != 0 {
         return found.code;
     }
@@ -45,7 +46,7 @@ pub fn rota_file_first_plan(file: &[u8], plan: &mut [u8]) -> u32 {
 
 // The plan after the one in the buffer, into the buffer.
 pub fn rota_file_next_plan(file: &[u8], plan: &mut [u8]) -> u32 {
-    let found = rota_for(file, plan.len());
+    let found = rota_for(Edition::One, file, plan.len());
     if found.code != 0 {
         return found.code;
     }
@@ -55,7 +56,7 @@ pub fn rota_file_next_plan(file: &[u8], plan: &mut [u8]) -> u32 {
 
 // The first plan with the fewest callouts of the rota in a file, if these are at most `cap`, into a plan buffer.
 pub fn rota_file_fewest_callouts(file: &[u8], plan: &mut [u8], cap: u32) -> u32 {
-    let found = rota_for(file, plan.len());
+    let found = rota_for(Edition::One, file, plan.len());
     if found.code != 0 {
         return found.code;
     }

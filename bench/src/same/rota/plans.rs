@@ -5,7 +5,7 @@ use crate::same::{acceptance, answers, least, min_cost, next};
 
 // The first plan of a rota of n items.
 pub fn rota_first_plan(n: usize, opens: &[u64], callouts: &[u64]) -> PlanAnswer {
-    let code = acceptance::table_code(n, opens, callouts);
+    let code = acceptance::table_code(n, n, opens, callouts);
     if code != 0 {
         return answers::refused(code);
     }
@@ -14,7 +14,7 @@ pub fn rota_first_plan(n: usize, opens: &[u64], callouts: &[u64]) -> PlanAnswer 
 
 // The plan after the given one.
 pub fn rota_next_plan(n: usize, opens: &[u64], callouts: &[u64], given: Plan) -> PlanAnswer {
-    let code = acceptance::table_code(n, opens, callouts);
+    let code = acceptance::table_code(n, n, opens, callouts);
     if code != 0 {
         return answers::refused(code);
     }
@@ -23,7 +23,7 @@ pub fn rota_next_plan(n: usize, opens: &[u64], callouts: &[u64], given: Plan) ->
 
 // The first of the plans with the fewest callouts, if these are at most `cap`.
 pub fn rota_fewest_callouts(n: usize, opens: &[u64], callouts: &[u64], cap: u32) -> PlanAnswer {
-    let code = acceptance::table_code(n, opens, callouts);
+    let code = acceptance::table_code(n, n, opens, callouts);
     if code != 0 {
         return answers::refused(code);
     }

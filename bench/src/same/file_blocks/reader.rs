@@ -1,6 +1,8 @@
 //! The block reader keeps the lent file and the next block's number. Its functions are thin: `check_at` does the work.
 
-use super::layout;
+use super::checks;
+use crate::same::file_layout::editions;
+use crate::same::model::Edition;
 
 pub struct BlockReader<'a> {
     pub file: &'a [u8],
@@ -14,13 +16,14 @@ pub struct Checked {
 }
 
 // The tests of block b; a block that is not there passes.
-pub fn check_at(file: &[u8], b: usize) -> Checked {
+pub fn check_at(edition: Edition, file: &[u8], b: usize) -> Checked {
     if file.len() / 512 <= b {
         return Checked { wrong: false, laid: true };
     }
+    let m = editions::slots_in(edition, file);
     let at = 512 * b;
     let block = &file[at..at + 512];
-    Checked { wrong: layout::check_wrong(block), laid: layout::block_laid(block, file[5], b) }
+    Checked { wrong: checks::check_wrong(edition, block), laid: checks::block_laid(edition, block, file[5], m, b) }
 }
 
 // A reader at block `next`.
@@ -29,11 +32,11 @@ pub fn at_block<'a>(file: &'a [u8], next: usize) -> BlockReader<'a> {
 }
 
 // The tests of the reader's next block.
-pub fn check<'a>(r: BlockReader<'a>) -> Checked {
-    check_at(r.file, r.next)
+pub fn check<'a>(edition: Edition, r: BlockReader<'a>) -> Checked {
+    check_at(edition, r.file, r.next)
 }
 
 // With plain parameters, for the loop over the blocks.
-pub fn check_block(file: &[u8], b: usize) -> Checked {
-    check(at_block(file, b))
+pub fn check_block(edition: Edition, file: &[u8], b: usize) -> Checked {
+    check(edition, at_block(file, b))
 }

@@ -23,14 +23,3 @@ pub fn put_low(x: u64, out: &mut [u8]) {
         i += 1;
     }
 }
-
-// The check of some bytes: their sum modulo 65,536.
-pub fn check_of(bytes: &[u8]) -> u64 {
-    let mut sum: u64 = 0;
-    let mut i = 0;
-    while i < bytes.len() {
-        sum += words::wide(bytes[i]) as u64;
-        i += 1;
-    }
-    sum % 65536
-}
