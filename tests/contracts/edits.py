@@ -134,26 +134,38 @@ def weaker_contracts(function, cited):
 
 # ---- what one check can try
 
-def clash(one, other):
-    """Whether a refusal of one edit could be for the other, or both change the same text."""
+def reached(function, functions):
+    """The function, those that it calls, those that they call, and so on."""
+    found, left = {function}, [function]
+    while left:
+        f = left.pop()
+        more = {g for g in functions if f.calls(g)} - found
+        found |= more
+        left += more
+    return found
+
+
+def clash(one, other, functions):
+    """Whether a refusal of one edit could be for the other or hide it, as a call that is not proved does to its callers; or both change
+    the same text."""
     f, g = one.function, other.function
     same = {change[:2] for change in one.changes} & {change[:2] for change in other.changes}
-    return f == g or f.calls(g) or g.calls(f) or bool(same)
+    return f in reached(g, functions) or g in reached(f, functions) or bool(same)
 
 
-def fits(edit, batch, texts):
+def fits(edit, batch, texts, functions):
     try:
         changed(texts, [change for other in [*batch, edit] for change in other.changes])
     except BadEdit:
         return False
-    return not any(clash(edit, other) for other in batch)
+    return not any(clash(edit, other, functions) for other in batch)
 
 
-def batches(edits, texts):
+def batches(edits, texts, functions):
     """The edits, each in the first batch that it fits in."""
     made = []
     for edit in edits:
-        place = next((batch for batch in made if fits(edit, batch, texts)), None)
+        place = next((batch for batch in made if fits(edit, batch, texts, functions)), None)
         if place is None:
             made.append([edit])
         else:
