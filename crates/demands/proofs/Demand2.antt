@@ -16,7 +16,7 @@ use Rattle.model.specs.Fewest.{fewest}
 use Rattle.model.specs.Allowed.{allowedWords}
 use Rattle.model.specs.Count.{count, permanent}
 use Rattle.model.specs.declared.Edition.{Edition}
-use Rattle.model.specs.File.{fileCode, itemsIn, slotsIn, opensIn, calloutsIn}
+use Rattle.model.specs.File.{itemsIn, slotsIn, opensIn, calloutsIn}
 use Rattle.model.specs.PlanAnswers.{refused, firstAnswer, nextAnswer, fewestAnswer}
 use Rattle.model.specs.UsableAnswers.{usableCode, usableAfter}
 use Rattle.model.specs.CountAnswers.{countCode, countAnswer, countTally}
@@ -27,7 +27,6 @@ use Rattle.model.proofs.Refusals.{neither-refuses, accepted-answer, all-written
 use Rattle.model.proofs.Codes.{count-code, on-file-code}
 use Rattle.model.proofs.Accepted.{tables-from}
 use Rattle.model.proofs.Editions.{one-tells, one-slots}
-use Rattle.model.proofs.Files.{accepted-file}
 use Rattle.model.proofs.Permanent.{permanent-is-count}
 use Rattle.model.proofs.RoundTrips.{items-read, write-passed, write-then-read, read-then-write}
 use Rattle.demands.specs.Demand2.{IsFirst, IsNext, IsFewestPlan, Demand2}

@@ -1,6 +1,6 @@
 -- Demand 3 holds of the calls: model's theorem on lists of lister calls, of which theirs are an instance. Assumes nothing.
 use mathlib.Core.Path.{_≡_, refl, sym, ap, ap₂, _∙_}
-use mathlib.Core.Bool.{Bool, true, false}
+use mathlib.Core.Bool.{true, false}
 use mathlib.Core.List.{List, [], _∷_, map}
 use Prim.Native.Nat.{ℕ, suc}
 use native.Mathlib.Nat.{suc-inj}

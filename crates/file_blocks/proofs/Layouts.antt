@@ -12,7 +12,7 @@ use Rattle.model.specs.Lists.{same}
 use Rattle.model.specs.File.{fromBytes, mark, header, itemsOf, unused, checkOf, checkWrong, blockLaid}
 use Rattle.model.proofs.Members.{same-append, same-eq}
 use Rattle.model.proofs.Parts.{drop-take}
-use Rattle.model.proofs.Editions.{header-length, header-number, header-marked}
+use Rattle.model.proofs.Editions.{header-number, header-marked}
 
 module _ (e : Edition) (block : List ℕ) (long : length block ≡ 512) where
   pub wrong-is : not (eqb (fromBytes (take 2 (drop 510 block))) (checkOf e (take 510 block))) ≡ checkWrong e block

@@ -1,15 +1,14 @@
 -- Tables that pass 1 to 4 are an accepted rota by index. Assumes nothing.
-use mathlib.Core.Path.{_≡_, refl, sym, ap, _∙_}
+use mathlib.Core.Path.{_≡_, refl, sym, _∙_}
 use mathlib.Core.Bool.{Bool, true, false, not, cond}
 use mathlib.Core.List.{List, [], _∷_}
-use Prim.Native.Nat.{ℕ, zero, suc, _-_, _^_, _<_, _≤_, min}
+use Prim.Native.Nat.{ℕ, zero, suc, _^_, _<_, _≤_}
 use native.Mathlib.Nat.{suc-inj}
 use native.Mathlib.Omega.{arith}
 use borrow.Author.Tests.{eq-eqb, ne-eqb, eqb-true, eqb-false, leb-false, le-ltb, ltb-false, not-false}
 use lib.Dec.{eqb, leb}
 use lib.ListN.{length, getD}
-use Rattle.words.specs.Word.{bit, minus}
-use Rattle.words.proofs.Bits.{bit-lt, bit-minus, bit-empty}
+use Rattle.words.specs.Word.{minus}
 use Rattle.model.specs.Lists.{any}
 use Rattle.model.specs.Rota.{strayCallout, cellCode, tableCode, Accepted}
 use Rattle.model.proofs.Members.{neither, any-none}
@@ -73,12 +72,3 @@ module _ (n m : ℕ) (opens callouts : List ℕ) where
         open-range = λ i h. leb-false (2 ^ m) (getD opens i 0) (any-none (λ w. leb (2 ^ m) w) 0 opens (c .0) i (omega arith));
         callout-open = λ i h. no-stray opens callouts (t .callout-words ∙ sym (t .open-words)) (d .0) i (omega arith);
       }
-
--- a callout cell is open
-pub callout-bit : (n m : ℕ) (opens callouts : List ℕ) → Accepted n m opens callouts → (i j : ℕ) → i < n → getD opens i 0 < 2 ^ 64 → j < 64
-    → bit (getD callouts i 0) j ≤ bit (getD opens i 0) j
-callout-bit n m opens callouts A i j h r l =
-    let w = getD opens i 0 in
-    let c = getD callouts i 0 in
-    let e : min (bit c j) (1 - bit w j) ≡ 0 = sym (bit-minus c w j r l) ∙ ap (λ x. bit x j) (A .callout-open i h) ∙ bit-empty j in
-    omega (arith, bit-lt c j)

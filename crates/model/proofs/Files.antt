@@ -214,22 +214,11 @@ module _ (e : Edition) (file : List ℕ) where
       fileCode-is e file ∙ simp (size, blocks-in k file (d .sized), d .checks, laid) (t .cells)
 
 module _ (e : Edition) (file : List ℕ) (ok : fileCode e file ≡ 0) where
-  pub opens-length : length (opensIn file) ≡ itemsIn file
-  opens-length = file-from e file ok .0 .open-words
-
-  pub callouts-length : length (calloutsIn file) ≡ itemsIn file
-  callouts-length = file-from e file ok .0 .callout-words
-
   pub file-size : length file ≡ 512 * blocksFor (itemsIn file)
   file-size = file-from e file ok .1 .sized
 
   pub accepted-file : tableCode (itemsIn file) (slotsIn e file) (opensIn file) (calloutsIn file) ≡ 0
   accepted-file = tables-into (itemsIn file) (slotsIn e file) (opensIn file) (calloutsIn file) (file-from e file ok .0)
-
-  pub words-at : (p i : ℕ) → p ≤ 24 → i < itemsIn file
-      → getD (wordsIn p (itemsIn file) (blocksIn file)) i 0 ≡ fromBytes (take 8 (drop (512 * (i / 31) + p + 16 * (i % 31)) file))
-  unfolding blocksFor
-  words-at p i fits h = word-of p (itemsIn file) i file fits (omega (arith, file-size)) h
 
 -- ---- read, then write
 

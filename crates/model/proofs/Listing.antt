@@ -1,7 +1,7 @@
 -- A whole list of lister calls gives the plans of a rising list in order, each once. The invariant: after k own calls the lister holds
 -- plan number min k length, less one, or is as it began. Assumes nothing.
 use mathlib.Core.Path.{_≡_, refl, sym, ap, ap₂, _∙_}
-use mathlib.Core.Bool.{Bool, true, false, cond}
+use mathlib.Core.Bool.{true, false, cond}
 use mathlib.Core.List.{List, [], _∷_, map, nil≢cons, head-eq-of-cons-eq, tail-eq-of-cons-eq}
 use Prim.Native.Nat.{ℕ, zero, suc, _+_, _<_, _≤_, min}
 use native.Mathlib.Nat.{add-zero, zero-add, add-suc, suc-add}

@@ -154,10 +154,6 @@ pub low-lt : (n : ℕ) → low n < 2 ^ n
 unfolding low
 low-lt n = omega (arith, pow-pos n)
 
-pub low-suc : (n : ℕ) → suc (low n) ≡ 2 ^ n
-unfolding low
-low-suc n = omega (arith, pow-pos n)
-
 pub bit-low : (n j : ℕ) → j < n → bit (low n) j ≡ 1
 unfolding low
 bit-low zero j l = absurd (omega arith)

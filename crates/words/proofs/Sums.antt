@@ -130,10 +130,6 @@ pub sum-add : (f g : ℕ → ℕ) (n : ℕ) → sum (λ i. f i + g i) n ≡ sum 
 unfolding sum
 sum-add f g n = total-add f g (below n)
 
-pub sum-scale : (c : ℕ) (f : ℕ → ℕ) (n : ℕ) → sum (λ i. c * f i) n ≡ c * sum f n
-unfolding sum
-sum-scale c f n = total-scale c f (below n)
-
 pub sum-const : (c n : ℕ) → sum (λ i. c) n ≡ n * c
 unfolding sum
 sum-const c n = total-const c (below n) ∙ ap (_* c) (length-below n)
