@@ -26,6 +26,7 @@ use Rattle.model.specs.PlanAnswers.{fewestAnswer}
 use Rattle.model.specs.Lister.{listerAnswer}
 use Rattle.model.specs.CountAnswers.{countCode}
 use Rattle.model.specs.PriceAnswers.{gradeRefused, gradeBy, gradeAnswer, priceRefused, priceBy, priceCode, priceAnswer}
+use Rattle.model.proofs.Members.{of-cond}
 use Rattle.model.proofs.Refusals.{neither-refuses}
 use Rattle.model.proofs.Accepted.{tables-from}
 use Rattle.model.proofs.Permanent.{permanent-is-count}
@@ -70,10 +71,6 @@ unfolding unless
 outcome P refusal zero make [] h stop none some = none refl refl
 outcome P refusal zero make (p ∷ l) h stop none some = some refl p l refl
 outcome P refusal (suc c) make l h stop none some = stop c (omega arith)
-
-of-cond : {A : Type 0} (P : A → Type 0) (b : Bool) {x y : A} → (b ≡ true → P x) → (b ≡ false → P y) → P (cond b x y)
-of-cond P true f g = f refl
-of-cond P false f g = g refl
 
 is-short : (n : ℕ) (opens callouts : List ℕ) → tableCode n n opens callouts ≡ 0 → plans n opens ≡ [] → IsShort opens (deficiency opens) (deficientSet opens)
 is-short n opens callouts ok = short-is n n opens callouts ok (tables-from n n opens callouts ok .few-items)

@@ -22,6 +22,11 @@ pub is-false : (b : Bool) → (T b → ⊥) → b ≡ false
 is-false true f = absurd (f tt)
 is-false false f = refl
 
+-- what holds of both values holds of the one that the test takes
+pub of-cond : {A : Type 0} (P : A → Type 0) (b : Bool) {x y : A} → (b ≡ true → P x) → (b ≡ false → P y) → P (cond b x y)
+of-cond P true f g = f refl
+of-cond P false f g = g refl
+
 pub both : (a b : Bool) → T a → T b → T (a && b)
 both true b s t = t
 both false b s t = s

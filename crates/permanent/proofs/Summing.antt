@@ -26,9 +26,9 @@ pub record Summing (opened : ℕ) (counts : List ℕ) (set left ways at : ℕ) :
   pub less : without left (lowest left) < left
   pub next : Partial opened counts set (without left (lowest left)) (ways + getD counts at 0)
 
-pub start : (opened : ℕ) (counts : List ℕ) (set : ℕ) → set < 2 ^ 64 → Partial opened counts set (bitAnd set opened) 0
+pub summing-start : (opened : ℕ) (counts : List ℕ) (set : ℕ) → set < 2 ^ 64 → Partial opened counts set (bitAnd set opened) 0
 unfolding served
-start opened counts set h = record {
+summing-start opened counts set h = record {
   inside = λ j. omega (arith, bit-and set opened j);
   small = omega (arith, and-le-l set opened);
   whole = zero-add _ ∙ sum-and (λ j. getD counts (without set j) 0) 64 set opened;
@@ -56,5 +56,5 @@ module _ {opened : ℕ} {counts : List ℕ} {set left ways : ℕ} (part : Partia
         };
       }
 
-pub finish : {opened : ℕ} {counts : List ℕ} {set ways : ℕ} → Partial opened counts set 0 ways → ways ≡ served opened counts set
-finish {counts = counts} {set = set} part = omega (arith, part .whole, sum-empty (λ j. getD counts (without set j) 0) 64)
+pub summing-end : {opened : ℕ} {counts : List ℕ} {set ways : ℕ} → Partial opened counts set 0 ways → ways ≡ served opened counts set
+summing-end {counts = counts} {set = set} part = omega (arith, part .whole, sum-empty (λ j. getD counts (without set j) 0) 64)

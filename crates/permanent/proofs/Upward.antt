@@ -55,10 +55,10 @@ module _ (m : ℕ) (opens : List ℕ) where
       ∙ paste-suc old 0 (subsetCounts m opens) s 0 (omega arith) (omega (arith, length-table))
 
 -- the empty set's word is written, over what the table has
-pub start : {m : ℕ} {opens : List ℕ} (old : List ℕ) {end plans : ℕ} → (m ≤ 20) × (2 ^ m ≤ length old) → end ≡ 2 ^ m → plans ≡ cond (eqb 0 (length opens)) 1 0
-    → Upward m opens (set old 0 1) (set old 0 1) end 1 plans
+pub upward-start : {m : ℕ} {opens : List ℕ} (old : List ℕ) {end plans : ℕ} → (m ≤ 20) × (2 ^ m ≤ length old) → end ≡ 2 ^ m
+    → plans ≡ cond (eqb 0 (length opens)) 1 0 → Upward m opens (set old 0 1) (set old 0 1) end 1 plans
 unfolding ones
-start {m} {opens} old sizes e q =
+upward-start {m} {opens} old sizes e q =
     let none = subset-empty m opens in
     record {
       sizes = (sizes .0, rw length-set (sizes .1));
@@ -130,10 +130,10 @@ module _ {m : ℕ} {opens old counts : List ℕ} {end s plans : ℕ} (u : Upward
           };
         }
 
-pub finish : {m : ℕ} {opens : List ℕ} (old : List ℕ) {counts : List ℕ} {end s plans : ℕ} → Upward m opens (set old 0 1) counts end s plans → end ≤ s
+pub upward-end : {m : ℕ} {opens : List ℕ} (old : List ℕ) {counts : List ℕ} {end s plans : ℕ} → Upward m opens (set old 0 1) counts end s plans → end ≤ s
     → (plans ≡ count m opens) × (counts ≡ written 0 (subsetCounts m opens) old)
 unfolding written
-finish {m} {opens} old {s = s} u l =
+upward-end {m} {opens} old {s = s} u l =
     let all : s ≡ 2 ^ m = omega (arith, u .last, u .within) in
     let full : s ≡ length (subsetCounts m opens) = omega (arith, length-table m opens) in
     let first : 0 < length (subsetCounts m opens) = omega (arith, length-table m opens, pow-pos m) in

@@ -4,7 +4,7 @@ use native.Mathlib.Omega.{arith}
 use borrow.Author.Needs.{needs}
 use lib.ListN.{set, length-set}
 use lib.Pow.{pow-pos}
-use Rattle.permanent.proofs.Upward.{Upward, Turn, start, length-counts, below, sized, room, turn, finish}
+use Rattle.permanent.proofs.Upward.{Upward, Turn, upward-start, length-counts, below, sized, room, turn, upward-end}
 use Rattle.permanent.proofs.count_subsets.Statement.{statement}
 use Rattle.permanent.proofs.count_subsets.Tie as tie
 
@@ -34,7 +34,7 @@ count-subsets-spec = tie.close (tie.spec Inv-loop μ-loop
     (λ c κs. search needs)
     (λ c.
     let at-start = c .before .before .before .before in
-    start (at-start .args .counts .now) (at-start .pre) (c .before .single .ensures) (c .complete .ensures))
+    upward-start (at-start .args .counts .now) (at-start .pre) (c .before .single .ensures) (c .complete .ensures))
     (λ c κs. search needs)
     (λ c κs. sized (c .before .before .loop .inv) (c .before .loop-test .taken) (c .size .ensures))
     (λ c κs. let at-word = c .before in
@@ -46,4 +46,4 @@ count-subsets-spec = tie.close (tie.spec Inv-loop μ-loop
     (λ c. search needs) (λ c. search needs)
     (λ c. turned c .next)
     (λ c. rw (length-counts (c .before .loop .inv)) (simp length-set))
-    (λ c. finish _ (c .before .loop .inv) (c .loop-test .left)))
+    (λ c. upward-end _ (c .before .loop .inv) (c .loop-test .left)))

@@ -3,7 +3,7 @@ use mathlib.Core.Path.{ap, _∙_}
 use native.Mathlib.Omega.{arith}
 use borrow.Author.Needs.{needs}
 use Rattle.words.specs.Word.{without}
-use Rattle.permanent.proofs.Summing.{Partial, Summing, start, slot-lt, summing-turn, finish}
+use Rattle.permanent.proofs.Summing.{Partial, Summing, summing-start, slot-lt, summing-turn, summing-end}
 use Rattle.permanent.proofs.subset_count.Statement.{statement}
 use Rattle.permanent.proofs.subset_count.Tie as tie
 
@@ -22,7 +22,7 @@ turn c =
 
 pub subset-count-spec : {M : Type 1} → statement M
 subset-count-spec = tie.close (tie.spec Inv-loop μ-loop
-    (λ c. start _ _ _ (omega arith))
+    (λ c. summing-start _ _ _ (omega arith))
     (λ c κs. search needs)
     (λ c κs. let at-loop = c .before .before in rw (c .lowest .ensures) (slot-lt (at-loop .loop .inv) (c .before .loop-test .taken)))
     (λ c. omega (arith, turn c .below))
@@ -31,4 +31,4 @@ subset-count-spec = tie.close (tie.spec Inv-loop μ-loop
     (λ c κs. search needs)
     (λ c. rw (c .without-lowest .ensures) (turn (c .before .before) .less))
     (λ c. rw (c .without-lowest .ensures) (turn (c .before .before) .next))
-    (λ c. finish (rw (c .loop-test .left) at (c .before .loop .inv))))
+    (λ c. summing-end (rw (c .loop-test .left) at (c .before .loop .inv))))
