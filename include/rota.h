@@ -93,7 +93,7 @@ static inline const char *rota_code_text(uint32_t code)
         "no complete plan follows the given one",
         "even the fewest callouts are more than the cap",
         "the file does not have 512, 1,024 or 1,536 bytes",
-        "the file is damaged: the check of a block is wrong",
+        "the check of a block is wrong, so the file is damaged",
         "the file is not laid out as a rota file",
         "there is too little room for the result"
     };
