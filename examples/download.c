@@ -1,67 +1,114 @@
 /*
- * The download program: a rota file's first plan, the next one, and the plan with the fewest callouts.
+ * The download program: a rota file's first plan, the next one, and the plan with the fewest callouts. The usage text below says
+ * what it writes. To build it, in the repository's root, after rt staticlib rota:
  *
- *     download FILE [CAP]
+ *     gcc -Iinclude examples/download.c target/staticlib/librota.a -o download
  *
- * CAP is the most callouts that the last plan may have; without it any number will do. Each line has the slots
- * of items 0 upward and, after the stroke, the plan's callouts. The exit status is 0 if the first plan and the one
- * with the fewest callouts are given, 1 if either is refused, 2 if the program is called wrongly or can't read the file.
+ * The plans come from the three calls that take a file's bytes and a plan buffer. The file's tables say how many callouts a plan
+ * has, who is short if there is none, and how many callouts there must be.
  */
 #include <ctype.h>
 #include <errno.h>
 #include <stdint.h>
 #include <stdio.h>
 #include <stdlib.h>
+#include <string.h>
 
 #include "rota.h"
 
-/* The longest file, and one byte that tells a longer one. */
-enum { FILE_ROOM = 1536 + 1, PLAN_BYTES = 64 };
+static const char CALL[] = "usage: download FILE [CAP]\n";
 
-/* What each refusal number means. */
-static const char *const REFUSALS[] = {
-    "not refused",
-    "the number of items is not 1 to 64",
-    "a table does not have one word for each item",
-    "an item is open for a slot that the rota does not have",
-    "a callout stands at a cell that is not open",
-    "plans are counted up to 20 items only",
-    "the tally is too short",
-    "the vehicles are not 1 to 10,000",
-    "the given plan is no complete plan of this rota",
-    "the rota has no complete plan",
-    "no complete plan follows",
-    "even the fewest callouts exceed the cap",
-    "the file's length is not 512, 1,024 or 1,536 bytes",
-    "a block's check is wrong, so the file is damaged",
-    "a block is not laid out as in a rota file, or the blocks are not as many as the items need",
-    "the plan buffer is too short"
-};
+static const char USAGE[] =
+    "\n"
+    "Shows the first plan of the rota file FILE, the next plan, and the first of the plans with the fewest callouts.\n"
+    "CAP is the most callouts that this last plan may have, 0 to 4294967295; without it any number will do. A line has\n"
+    "the slots of items 0 upward and, after the stroke, the plan's callouts. If no complete plan follows the first one,\n"
+    "the second line says so; this is no failure.\n"
+    "\n"
+    "Exit status:\n"
+    "  0  the first plan and the one with the fewest callouts are given\n"
+    "  1  the file or one of these two plans is refused; standard error says why\n"
+    "  2  the program is called wrongly, or FILE can't be read, or the plans can't be written\n";
 
-/* The callouts of a plan, by the callout words of an accepted file. */
-static unsigned callouts_of(const uint8_t *file, const uint8_t *plan)
+/* A rota file's bytes, one more than the longest has so that a longer one is told, and the rota in it. */
+typedef struct {
+    const char *name;
+    uint8_t bytes[ROTA_FILE_BYTES + 1];
+    size_t length;
+    size_t n;
+    uint64_t opens[ROTA_MOST_ITEMS];
+    uint64_t callouts[ROTA_MOST_ITEMS];
+} rota;
+
+/* Writes a plan's line. */
+static void show(const char *title, const rota *r, const uint8_t *plan)
 {
-    unsigned total = 0;
-    for (unsigned i = 0; i < file[5]; i++) {
-        const uint8_t *word = file + 512 * (i / 31) + 14 + 16 * (i % 31) + 8;
-        total += word[plan[i] / 8] >> (plan[i] % 8) & 1u;
+    unsigned callouts = 0;
+    printf("%s:", title);
+    for (size_t i = 0; i < r->n; i++) {
+        printf(" %u", (unsigned)plan[i]);
+        callouts += (unsigned)(r->callouts[i] >> plan[i] & 1);
     }
-    return total;
+    printf(" / %u\n", callouts);
 }
 
-/* Writes a plan, or why there is none, and returns the call's number. */
-static uint32_t show(const char *title, uint32_t code, const uint8_t *file, const uint8_t *plan)
+/* Writes which items are short, as in "items 0, 1 and 4 are short by 2 slots". */
+static void show_shortage(uint64_t items, uint32_t shortage)
 {
-    printf("%s:", title);
-    if (code != 0) {
-        int known = code < sizeof REFUSALS / sizeof REFUSALS[0];
-        printf(" refused %lu, %s\n", (unsigned long)code, known ? REFUSALS[code] : "an unknown number");
-        return code;
+    unsigned left = 0;
+    for (uint64_t rest = items; rest != 0; rest &= rest - 1) {
+        left++;
     }
-    for (unsigned i = 0; i < file[5]; i++) {
-        printf(" %u", (unsigned)plan[i]);
+    const char *verb = left == 1 ? "is" : "are";
+    fputs(left == 1 ? "; item " : "; items ", stderr);
+    for (unsigned i = 0; i < ROTA_MOST_ITEMS; i++) {
+        if (items >> i & 1) {
+            left--;
+            fprintf(stderr, "%u%s", i, left > 1 ? ", " : left == 1 ? " and " : "");
+        }
     }
-    printf(" / %u\n", callouts_of(file, plan));
+    fprintf(stderr, " %s short by %lu slot%s", verb, (unsigned long)shortage, shortage == 1 ? "" : "s");
+}
+
+/* Writes why the file or a plan is refused, and returns the exit status. */
+static int refuse(const rota *r, const char *what, uint32_t code, uint32_t cap)
+{
+    fflush(stdout); /* what was given stands before the refusal */
+    fprintf(stderr, "download: %s: %srefused %lu: %s", r->name, what, (unsigned long)code, rota_code_text(code));
+    if (code == ROTA_NO_PLAN) {
+        rota_plan_answer none = rota_first_plan(r->n, r->opens, r->n, r->callouts, r->n);
+        show_shortage(none.items, none.shortage);
+    } else if (code == ROTA_OVER_CAP) {
+        rota_plan_answer over = rota_fewest_callouts(r->n, r->opens, r->n, r->callouts, r->n, cap);
+        fprintf(stderr, "; the fewest are %lu, the cap is %lu", (unsigned long)over.callouts, (unsigned long)cap);
+    }
+    fputc('\n', stderr);
+    return 1;
+}
+
+/* Writes the three plans of a file that was read, and returns the exit status. */
+static int show_plans(const rota *r, uint32_t cap)
+{
+    uint8_t plan[ROTA_MOST_ITEMS];
+    uint32_t code = rota_file_first_plan(r->bytes, r->length, plan, sizeof plan);
+    if (code != ROTA_DONE) {
+        return refuse(r, "first plan ", code, cap);
+    }
+    show("first plan", r, plan);
+    /* The buffer holds the first plan, and now gets the one after it. */
+    code = rota_file_next_plan(r->bytes, r->length, plan, sizeof plan);
+    if (code == ROTA_NO_FURTHER_PLAN) {
+        puts("next plan: none, the first plan is the only one");
+    } else if (code != ROTA_DONE) {
+        return refuse(r, "next plan ", code, cap);
+    } else {
+        show("next plan", r, plan);
+    }
+    code = rota_file_fewest_callouts(r->bytes, r->length, plan, sizeof plan, cap);
+    if (code != ROTA_DONE) {
+        return refuse(r, "fewest callouts ", code, cap);
+    }
+    show("fewest callouts", r, plan);
     return 0;
 }
 
@@ -81,39 +128,58 @@ static int read_cap(const char *text, uint32_t *cap)
     return 1;
 }
 
-/* Reads a file of any length, as far as there is room; returns 0 if it can't be read. */
-static int read_bytes(const char *name, uint8_t *file, size_t *length)
+/* Reads a file of any length, as far as there is room; returns 0, and errno says why, if it can't be read. */
+static int read_bytes(rota *r)
 {
-    FILE *stream = fopen(name, "rb");
+    FILE *stream = fopen(r->name, "rb");
     if (stream == NULL) {
         return 0;
     }
-    *length = fread(file, 1, FILE_ROOM, stream);
-    int failed = ferror(stream);
+    r->length = fread(r->bytes, 1, sizeof r->bytes, stream);
+    int failed = ferror(stream), why = errno;
     fclose(stream);
+    errno = why;
     return !failed;
+}
+
+/* The exit status: the given one, or 2 if something was not written. */
+static int finish(int status)
+{
+    int failed = ferror(stdout);
+    if (fclose(stdout) != 0 || failed) {
+        fputs("download: can't write to standard output\n", stderr);
+        return 2;
+    }
+    return status;
 }
 
 int main(int argc, char **argv)
 {
-    static uint8_t file[FILE_ROOM];
-    uint8_t plan[PLAN_BYTES];
+    static rota r;
     uint32_t cap = UINT32_MAX;
-    size_t length = 0;
 
-    if (argc < 2 || argc > 3 || (argc == 3 && !read_cap(argv[2], &cap))) {
-        fprintf(stderr, "usage: download FILE [CAP]\n");
+    if (argc == 2 && (strcmp(argv[1], "--help") == 0 || strcmp(argv[1], "-h") == 0)) {
+        fputs(CALL, stdout);
+        fputs(USAGE, stdout);
+        return finish(0);
+    }
+    if (argc < 2 || argc > 3) {
+        fputs(CALL, stderr);
         return 2;
     }
-    if (!read_bytes(argv[1], file, &length)) {
-        perror(argv[1]);
+    if (argc == 3 && !read_cap(argv[2], &cap)) {
+        fprintf(stderr, "download: the cap is no number from 0 to 4294967295: %s\n%s", argv[2], CALL);
         return 2;
     }
-    if (show("first plan", rota_file_first_plan(file, length, plan, sizeof plan), file, plan) != 0) {
-        return 1;
+    r.name = argv[1];
+    if (!read_bytes(&r)) {
+        fprintf(stderr, "download: can't read %s: %s\n", r.name, strerror(errno));
+        return 2;
     }
-    /* The buffer holds the first plan, and now gets the one after it. */
-    show("next plan", rota_file_next_plan(file, length, plan, sizeof plan), file, plan);
-    uint32_t code = rota_file_fewest_callouts(file, length, plan, sizeof plan, cap);
-    return show("fewest callouts", code, file, plan) == 0 ? 0 : 1;
+    rota_read_answer read = rota_read_file(r.bytes, r.length, r.opens, ROTA_MOST_ITEMS, r.callouts, ROTA_MOST_ITEMS);
+    if (read.code != ROTA_DONE) {
+        return refuse(&r, "", read.code, cap);
+    }
+    r.n = (size_t)read.n;
+    return finish(show_plans(&r, cap));
 }

@@ -1,19 +1,37 @@
 /*
- * Download rotas and their complete plans.
+ * Download rotas and their complete plans. docs/RULES.md has all the rules, in plain words.
  *
  * A rota has n items and n slots, each numbered from 0; n is 1 to 64. It stands in two tables of n words, one word an item.
  * Bit j of an item's open word is set if the item may use slot j. The same bit of its callout word is set if that cell is a
  * callout; a callout cell must be open. A complete plan gives each item one open slot, no slot twice. Plans are ordered as in
  * a dictionary: by item 0's slot, then item 1's.
  *
- * Every call takes any input, ends, and either does its work or refuses with a number of enum rota_code. If several refusals
- * fit, the one that the call tests first is given; each is tested over the whole input before the next. A refused call writes
- * to nothing that was lent: every buffer and every lister is as it was. In its answer the plan is blank (64 bytes of 255) and
- * every other number is 0, but for what ROTA_NO_PLAN and ROTA_OVER_CAP bring with them.
+ * What a call is given may be anything: every number, every byte and word of a buffer, every length. The call ends, and either
+ * does its work or refuses with a number of enum rota_code. If several refusals fit, the one that the call tests first is given;
+ * each is tested over the whole input before the next. A refused call writes to nothing that was lent: every buffer and every
+ * lister is as it was. In its answer the plan is blank (64 bytes of 255) and every other number is 0, but for what ROTA_NO_PLAN
+ * and ROTA_OVER_CAP bring with them.
  *
- * A buffer is passed as a pointer and its length in elements; with length 0 the pointer may be null. Outputs may be longer than
- * what is written, and their further elements are kept. An output may not overlap another buffer of the same call. Nothing
- * is kept between calls but what a lister holds.
+ * A buffer is passed as a pointer and its length in elements. An output may be longer than what is written, and its further
+ * elements are kept. It need not be filled before the call, but for a lister and the plan buffer of rota_file_next_plan.
+ *
+ * The caller must see to four things, for a refused call too. Without them the call is undefined and no promise of this header
+ * holds, neither of the answer nor of the buffers.
+ *   - A pointer is valid for its length and aligned for its element type. It may be null with length 0 only, the pointer to a
+ *     lister never.
+ *   - An output overlaps nothing else that the call is given, neither another output nor an input. A lister is an output. The
+ *     proofs suppose that outputs stand apart. Inputs may overlap each other, and may be the same.
+ *   - The field started of a lister is true or false. A byte with another pattern, as memory that was never set may hold, is
+ *     neither.
+ *   - While the call runs, nobody else writes to its inputs, and nobody else reads or writes its outputs.
+ *
+ * Nothing is kept between calls but what a lister holds. Calls may run at the same time, on any threads, as long as no output of
+ * one is in use by another. A call allocates nothing, makes no system call, uses no floating point and leaves errno alone. It
+ * needs less than 16 KiB of stack.
+ *
+ * The archive is made for x86-64 Linux, with the System V calling convention, and needs memcpy and memset of the C library. A
+ * rota file has the same bytes whatever the byte order of the machine. The padding bytes of an answer may be anything: compare
+ * fields, not memory.
  *
  * Tests, in order, by what a call is given:
  *   TABLES  ROTA_BAD_N, ROTA_BAD_TABLE_LENGTH, ROTA_SLOT_OUTSIDE, ROTA_CALLOUT_NOT_OPEN
@@ -25,6 +43,14 @@
 #include <stdbool.h>
 #include <stddef.h>
 #include <stdint.h>
+
+/* The version, in numbers and as a text made of them: "1.0.0". */
+#define ROTA_VERSION_MAJOR 1
+#define ROTA_VERSION_MINOR 0
+#define ROTA_VERSION_PATCH 0
+#define ROTA_VERSION ROTA_VERSION_OF(ROTA_VERSION_MAJOR, ROTA_VERSION_MINOR, ROTA_VERSION_PATCH)
+#define ROTA_VERSION_OF(major, minor, patch) ROTA_VERSION_TEXT(major, minor, patch)
+#define ROTA_VERSION_TEXT(major, minor, patch) #major "." #minor "." #patch
 
 #ifdef __cplusplus
 extern "C" {
@@ -49,6 +75,30 @@ enum rota_code {
     ROTA_BAD_LAYOUT = 14,       /* a header or unused place, n, or the number of blocks is not as laid out */
     ROTA_OUTPUT_TOO_SHORT = 15  /* an output other than the tally is shorter than what is to be written */
 };
+
+/* What a number of enum rota_code says, in plain words; any other number has a text too. */
+static inline const char *rota_code_text(uint32_t code)
+{
+    static const char *const texts[] = {
+        "done",
+        "the rota does not have 1 to 64 items",
+        "a table does not have one word for each item",
+        "an item is open for a slot that the rota does not have",
+        "a callout stands where the slot is not open to the item",
+        "only rotas of up to 20 items are counted, graded and priced",
+        "the tally is too short to count the plans",
+        "the fleet does not have 1 to 10,000 vehicles",
+        "the given plan is no complete plan of this rota",
+        "there is no complete plan",
+        "no complete plan follows the given one",
+        "even the fewest callouts are more than the cap",
+        "the file does not have 512, 1,024 or 1,536 bytes",
+        "the check of a block is wrong, so the file is damaged",
+        "the file is not laid out as a rota file",
+        "there is too little room for the result"
+    };
+    return code < sizeof texts / sizeof texts[0] ? texts[code] : "the library has no such number";
+}
 
 /* Sizes that the calls and the file are made of. */
 enum {
@@ -81,6 +131,9 @@ typedef struct {
     bool started;
     rota_plan plan;
 } rota_lister;
+
+/* A fresh lister: rota_lister lister = ROTA_LISTER_FRESH; */
+#define ROTA_LISTER_FRESH {false, {{0}}}
 
 typedef struct {
     uint32_t code;

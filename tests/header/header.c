@@ -1,62 +1,53 @@
 /*
- * Every call once or more on T (open words 3, 7, 6; callout words 1, 0, 4), with the results of document 01. The same text is
- * compiled as C and as C++.
+ * Every call once or more on T, with the results of document 01. This text and the other parts of the test are compiled as C and
+ * as C++, and each part includes the header for itself.
  */
 #include "rota.h"
 
 #include "layout.h"
+#include "parts.h"
 
 #include <stdio.h>
 #include <stdlib.h>
 #include <string.h>
 
-static const uint64_t OPENS[3] = {3, 7, 6};
-static const uint64_t CALLOUTS[3] = {1, 0, 4};
+const uint64_t OPENS[3] = {3, 7, 6};
+const uint64_t CALLOUTS[3] = {1, 0, 4};
 
-#define T 3, OPENS, 3, CALLOUTS, 3
-
-static void expect(bool holds, const char *what, int line)
+void expect(bool holds, const char *what, const char *file, int line)
 {
     if (!holds) {
-        fprintf(stderr, "header.c:%d: not so: %s\n", line, what);
+        fprintf(stderr, "%s:%d: not so: %s\n", file, line, what);
         exit(1);
     }
 }
 
-#define EXPECT(condition) expect(condition, #condition, __LINE__)
-
-/* A plan of three items. */
-static rota_plan plan(uint8_t a, uint8_t b, uint8_t c)
+rota_plan plan(uint8_t a, uint8_t b, uint8_t c)
 {
-    rota_plan p;
-    memset(&p, 0, sizeof p);
-    p.slots[0] = a;
-    p.slots[1] = b;
-    p.slots[2] = c;
+    rota_plan p = {{a, b, c}};
     return p;
 }
 
-static bool same(rota_plan a, rota_plan b)
+bool same(rota_plan a, rota_plan b)
 {
     return memcmp(&a, &b, sizeof a) == 0;
 }
 
-static rota_plan blank(void)
+rota_plan blank(void)
 {
     rota_plan p;
     memset(&p, 255, sizeof p);
     return p;
 }
 
-/* The answer's plan and callouts, with nobody short. */
-static bool gives(rota_plan_answer a, uint32_t code, rota_plan p, uint32_t callouts)
+bool gives(rota_plan_answer a, uint32_t code, rota_plan p, uint32_t callouts)
 {
     return a.code == code && same(a.plan, p) && a.callouts == callouts && a.items == 0 && a.shortage == 0;
 }
 
 static void plans(void)
 {
-    rota_lister lister;
+    rota_lister lister = ROTA_LISTER_FRESH;
     uint64_t short_opens[4] = {1, 1, 2, 14}, none[4] = {0, 0, 0, 0};
     rota_plan_answer a;
 
@@ -67,19 +58,21 @@ static void plans(void)
     EXPECT(gives(rota_fewest_callouts(T, 1), ROTA_DONE, plan(0, 2, 1), 1));
     EXPECT(gives(rota_fewest_callouts(T, 0), ROTA_OVER_CAP, blank(), 1));
 
-    lister.started = false;
-    lister.plan = blank();
+    EXPECT(!lister.started && same(lister.plan, plan(0, 0, 0)));
+    EXPECT(gives(rota_list_plan(&lister, 4, short_opens, 4, short_opens, 3), ROTA_BAD_TABLE_LENGTH, blank(), 0));
+    EXPECT(!lister.started && same(lister.plan, plan(0, 0, 0)));
     EXPECT(gives(rota_list_plan(&lister, T), ROTA_DONE, plan(0, 1, 2), 0));
     EXPECT(lister.started && same(lister.plan, plan(0, 1, 2)));
     EXPECT(gives(rota_list_plan(&lister, T), ROTA_DONE, plan(0, 2, 1), 0));
     EXPECT(gives(rota_list_plan(&lister, T), ROTA_DONE, plan(1, 0, 2), 0));
     EXPECT(gives(rota_list_plan(&lister, T), ROTA_NO_FURTHER_PLAN, blank(), 0));
     EXPECT(lister.started && same(lister.plan, plan(1, 0, 2)));
+    lister.started = false;
+    EXPECT(gives(rota_list_plan(&lister, T), ROTA_DONE, plan(0, 1, 2), 0));
 
     a = rota_first_plan(4, short_opens, 4, none, 4);
     EXPECT(a.code == ROTA_NO_PLAN && same(a.plan, blank()) && a.items == 3 && a.shortage == 1 && a.callouts == 0);
     EXPECT(gives(rota_first_plan(0, OPENS, 3, CALLOUTS, 3), ROTA_BAD_N, blank(), 0));
-    EXPECT(gives(rota_first_plan(65, OPENS, 3, CALLOUTS, 3), ROTA_BAD_N, blank(), 0));
     EXPECT(gives(rota_first_plan(2, OPENS, 3, CALLOUTS, 3), ROTA_BAD_TABLE_LENGTH, blank(), 0));
     EXPECT(gives(rota_first_plan(2, OPENS, 2, CALLOUTS, 2), ROTA_SLOT_OUTSIDE, blank(), 0));
     EXPECT(gives(rota_first_plan(3, CALLOUTS, 3, OPENS, 3), ROTA_CALLOUT_NOT_OPEN, blank(), 0));
@@ -122,7 +115,7 @@ static void tables(void)
 
 static void files(void)
 {
-    uint8_t file[513], buffer[65];
+    uint8_t file[ROTA_BLOCK_BYTES + 1], buffer[ROTA_MOST_ITEMS + 1];
     uint64_t opens[4] = {9, 9, 9, 77}, callouts[4] = {9, 9, 9, 77};
     rota_write_answer written;
     rota_read_answer read;
@@ -153,8 +146,10 @@ static void files(void)
     EXPECT(memcmp(buffer, plan(1, 0, 2).slots, 64) == 0);
     EXPECT(rota_file_fewest_callouts(file, 512, buffer, 64, 1) == ROTA_DONE);
     EXPECT(memcmp(buffer, plan(0, 2, 1).slots, 64) == 0);
-    file[0] = 'r';
+    file[0] += 32;
     EXPECT(rota_file_first_plan(file, 512, buffer, 64) == ROTA_BAD_CHECK);
+    file[510] += 32;
+    EXPECT(rota_file_first_plan(file, 512, buffer, 64) == ROTA_BAD_LAYOUT);
 }
 
 int main(void)
@@ -162,10 +157,14 @@ int main(void)
     plans();
     tables();
     files();
+    constants();
+    texts();
+    no_buffers();
+    overlapping_inputs();
 #ifdef __cplusplus
-    puts("header: every call agrees on T, from C++");
+    puts("header: every call, constant and text, from C++");
 #else
-    puts("header: every call agrees on T, from C");
+    puts("header: every call, constant and text, from C");
 #endif
     return 0;
 }

@@ -7,6 +7,12 @@
 #include <assert.h>
 #include <stddef.h>
 
+/* C99 has no static_assert. Here an array has -1 elements if the condition does not hold. */
+#if !defined(__cplusplus) && __STDC_VERSION__ < 201112L
+#undef static_assert
+#define static_assert(condition, text) extern const char layout[(condition) ? 1 : -1]
+#endif
+
 #define SIZE(type, bytes) static_assert(sizeof(type) == (bytes), #type " has " #bytes " bytes")
 #define FIELD(type, field, at, bytes)                                                   \
     static_assert(offsetof(type, field) == (at), #type "." #field " is at byte " #at);  \
@@ -63,5 +69,8 @@ static_assert(ROTA_CALLOUT_NOT_OPEN == 4 && ROTA_TOO_MANY_TO_COUNT == 5 && ROTA_
 static_assert(ROTA_BAD_FLEET == 7 && ROTA_NOT_A_PLAN == 8 && ROTA_NO_PLAN == 9, "7 to 9");
 static_assert(ROTA_NO_FURTHER_PLAN == 10 && ROTA_OVER_CAP == 11 && ROTA_BAD_FILE_LENGTH == 12, "10 to 12");
 static_assert(ROTA_BAD_CHECK == 13 && ROTA_BAD_LAYOUT == 14 && ROTA_OUTPUT_TOO_SHORT == 15, "13 to 15");
+
+static_assert(ROTA_MOST_ITEMS == 64 && ROTA_MOST_COUNTED == 20, "items");
+static_assert(ROTA_BLOCK_BYTES == 512 && ROTA_FILE_BYTES == 1536, "bytes");
 
 #endif
