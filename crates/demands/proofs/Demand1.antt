@@ -21,7 +21,7 @@ use Rattle.model.specs.UsableAnswers.{usableAfter}
 use Rattle.model.specs.CountAnswers.{countRefused, countCode, countAnswer, countTally}
 use Rattle.model.specs.PriceAnswers.{gradeAnswer, gradeTally, priceCode, priceAnswer, priceTally}
 use Rattle.model.specs.FileAnswers.{readRefused, readCode, readAnswer, readOpens, readCallouts, writeRefused, writeCode, writeAnswer, writeFile, planFileCode}
-use Rattle.model.specs.FileAnswers.{onFile, fileFirst, fileNext, fileFewest, bufferAfter}
+use Rattle.model.specs.FileAnswers.{onFile, bufferAfter}
 use Rattle.model.proofs.Refusals.{or-none, or-assoc, or-later, nothing-written}
 use Rattle.model.proofs.Codes.{first-code, next-code, fewest-code, count-code, grade-code, price-code, read-code, write-code, on-file-code}
 use Rattle.model.proofs.Files.{accepted-file}
@@ -141,7 +141,7 @@ kept r code values old new e q d = q ∙ sym (nothing-written r code d (sym e) v
 -- ---- the theorem
 
 pub demand1 : Demand1
-unfolding listerAfter usableAfter countTally gradeTally priceTally readOpens readCallouts writeCode writeFile bufferAfter fileFirst fileNext fileFewest
+unfolding listerAfter usableAfter countTally gradeTally priceTally readOpens readCallouts writeCode writeFile bufferAfter
 demand1 =
     record {
       anything = ask-nothing;

@@ -22,7 +22,7 @@ use Rattle.model.specs.UsableAnswers.{usableCode, usableAfter}
 use Rattle.model.specs.CountAnswers.{countCode, countAnswer, countTally}
 use Rattle.model.specs.PriceAnswers.{gradeTally, priceTally}
 use Rattle.model.specs.FileAnswers.{readAnswer, readOpens, readCallouts, writeAnswer, writeFile}
-use Rattle.model.specs.FileAnswers.{planFileCode, onFile, fileFirst, fileNext, fileFewest, bufferAfter}
+use Rattle.model.specs.FileAnswers.{planFileCode, onFile, bufferAfter}
 use Rattle.model.proofs.Refusals.{neither-refuses, accepted-answer, all-written}
 use Rattle.model.proofs.Codes.{count-code, on-file-code}
 use Rattle.model.proofs.Accepted.{tables-from}
@@ -97,7 +97,7 @@ module _ (file old : List ℕ) (call : PlanCall) (r : ℕ) (new : List ℕ) (e :
 -- ---- the theorem
 
 pub demand2 : Demand2
-unfolding usableCode usableAfter countTally gradeTally priceTally fileFirst fileNext fileFewest
+unfolding usableCode usableAfter countTally gradeTally priceTally
 demand2 =
     record {
       first = first-each _ (λ n o k. first-says n o k .on-success);

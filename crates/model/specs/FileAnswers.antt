@@ -66,17 +66,14 @@ unfoldable pub onFile : Edition → List ℕ → ℕ → (ℕ → ℕ → List �
 unfolding unless planFileCode itemsIn slotsIn opensIn calloutsIn
 onFile e file places call = unless refused (planFileCode e file places) (call (itemsIn file) (slotsIn e file) (opensIn file) (calloutsIn file))
 
-unfoldable pub fileFirst : Edition → List ℕ → ℕ → PlanAnswer
-unfolding onFile firstAnswer
+abbrev pub fileFirst : Edition → List ℕ → ℕ → PlanAnswer
 fileFirst e file places = onFile e file places firstAnswer
 
 -- the given plan stands in the buffer's first 64 bytes
-unfoldable pub fileNext : Edition → List ℕ → ℕ → Plan → PlanAnswer
-unfolding onFile nextAnswer
+abbrev pub fileNext : Edition → List ℕ → ℕ → Plan → PlanAnswer
 fileNext e file places g = onFile e file places (λ n m opens callouts. nextAnswer n m opens callouts g)
 
-unfoldable pub fileFewest : Edition → List ℕ → ℕ → ℕ → PlanAnswer
-unfolding onFile fewestAnswer
+abbrev pub fileFewest : Edition → List ℕ → ℕ → ℕ → PlanAnswer
 fileFewest e file places cap = onFile e file places (λ n m opens callouts. fewestAnswer n m opens callouts cap)
 
 -- the plan buffer after such a call

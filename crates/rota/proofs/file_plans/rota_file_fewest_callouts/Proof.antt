@@ -5,7 +5,6 @@ use lib.Seq.{length-take-le}
 use Prim.Native.Nat.{ℕ}
 use Rattle.model.specs.declared.Edition.{Edition}
 use Rattle.model.specs.PlanAnswers.{fewestAnswer}
-use Rattle.model.specs.FileAnswers.{fileFewest}
 use Rattle.model.proofs.Editions.{one-slots}
 use Rattle.rota.proofs.OnFiles.{PlanCall, Opened, refused-by-file, opened}
 use Rattle.rota.proofs.file_plans.rota_file_fewest_callouts.Statement.{statement}
@@ -22,13 +21,11 @@ open-at s =
     opened Edition.One (start .file .now) (start .plan .now) (s .before .before .rota-for .ensures) (s .if1 .left)
 
 returns : tie.Need-returns
-unfolding fileFewest
 returns c =
     let start = c .before .before .before .before .before .args in
     refused-by-file Edition.One (start .file .now) (start .plan .now) (c .before .before .rota-for .ensures) (up-to (start .cap)) (c .if1 .taken)
 
 returns-2 : tie.Need-returns-2
-unfolding fileFewest
 returns-2 c =
     let at-stored = c .before .before in
     let at-search = at-stored .before .before .before .before in

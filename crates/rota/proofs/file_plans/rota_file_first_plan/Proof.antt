@@ -4,7 +4,6 @@ use borrow.Author.Needs.{needs}
 use lib.Seq.{length-take-le}
 use Rattle.model.specs.declared.Edition.{Edition}
 use Rattle.model.specs.PlanAnswers.{firstAnswer}
-use Rattle.model.specs.FileAnswers.{fileFirst}
 use Rattle.rota.proofs.OnFiles.{Opened, refused-by-file, opened}
 use Rattle.rota.proofs.file_plans.rota_file_first_plan.Statement.{statement}
 use Rattle.rota.proofs.file_plans.rota_file_first_plan.Tie as tie
@@ -16,13 +15,11 @@ open-at s =
     opened Edition.One (start .file .now) (start .plan .now) (s .before .before .rota-for .ensures) (s .if1 .left)
 
 returns : tie.Need-returns
-unfolding fileFirst
 returns c =
     let start = c .before .before .before .before .before .args in
     refused-by-file Edition.One (start .file .now) (start .plan .now) (c .before .before .rota-for .ensures) firstAnswer (c .if1 .taken)
 
 returns-2 : tie.Need-returns-2
-unfolding fileFirst
 returns-2 c =
     let at-stored = c .before .before in
     let at-search = at-stored .before .before .before .before in

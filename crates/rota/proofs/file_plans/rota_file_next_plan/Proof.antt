@@ -6,7 +6,6 @@ use lib.Seq.{length-take-le}
 use Rattle.model.specs.declared.Edition.{Edition}
 use Rattle.model.specs.declared.Plan.{Plan}
 use Rattle.model.specs.PlanAnswers.{nextFrom, nextAnswer}
-use Rattle.model.specs.FileAnswers.{fileNext}
 use Rattle.rota.proofs.OnFiles.{PlanCall, Opened, refused-by-file, opened}
 use Rattle.rota.proofs.file_plans.rota_file_next_plan.Statement.{statement}
 use Rattle.rota.proofs.file_plans.rota_file_next_plan.Tie as tie
@@ -22,14 +21,12 @@ open-at s =
     opened Edition.One (start .file .now) (start .plan .now) (s .before .before .rota-for .ensures) (s .if1 .left)
 
 returns : tie.Need-returns
-unfolding fileNext
 returns c =
     let start = c .before .before .before .before .before .args in
     let given : Plan = record { slots = take 64 (start .plan .now) } in
     refused-by-file Edition.One (start .file .now) (start .plan .now) (c .before .before .rota-for .ensures) (after given) (c .if1 .taken)
 
 returns-2 : tie.Need-returns-2
-unfolding fileNext
 returns-2 c =
     let at-stored = c .before .before in
     let at-search = at-stored .before .before .before .before in
