@@ -1,6 +1,6 @@
 """Worked examples: `ROTA: asked → answer`, the table of worked rotas, the lister's table and the tally's. The library computes, the document expects."""
 from document import Wrong, expect, match, number, numbers, span
-from library import FILL, changed, left, words_of
+from library import FILL, left, words_of
 from rotas import named, padded, rota_t
 
 BLANK = bytes([255] * 64)
@@ -40,7 +40,7 @@ def agrees(answer, code, what, plan=None, **given):
     if answer.plan is not None:
         expect(answer.plan == (plan if code == 0 else BLANK), what, "- the library gives", list(answer.plan))
     if code:
-        expect(not changed(answer), what, "- refused, and changed:", changed(answer))
+        expect(not answer.changed, what, "- refused, and changed:", answer.changed)
 
 
 class Asked:

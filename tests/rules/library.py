@@ -1,14 +1,14 @@
 """The calls of the library, by ctypes over a shared object. What a call is lent lies between guards.
 
-Each call is given plain values and gives an Answer: the number, the other numbers by name, the plan's bytes or None, and what was lent, by name
-with its bytes before and after. Calls are pure, so each is made once for the same values.
+Each call is given plain values and gives an Answer: the number, the other numbers by name, the plan's bytes or None, what was lent, by name
+with its bytes before and after, and the names of what is not as it was. Calls are pure, so each is made once for the same values.
 """
 import collections
 import ctypes
 import functools
 import struct
 
-Answer = collections.namedtuple("Answer", "code numbers plan lent")
+Answer = collections.namedtuple("Answer", "code numbers plan lent changed")
 GUARD = b"\x5a" * 64
 FILL = b"\xa5"
 
@@ -66,11 +66,12 @@ def bytes_of(words):
 
 def answer_of(found, lent):
     kept = tuple((name, buffer.before, buffer.after()) for name, buffer in lent)
+    changed = [name for name, before, after in kept if before != after]
     if isinstance(found, int):
-        return Answer(found, {}, None, kept)
+        return Answer(found, {}, None, kept, changed)
     names = [name for name, _ in found._fields_]
     numbers = {name: getattr(found, name) for name in names if name not in ("code", "plan")}
-    return Answer(found.code, numbers, bytes(found.plan.slots) if "plan" in names else None, kept)
+    return Answer(found.code, numbers, bytes(found.plan.slots) if "plan" in names else None, kept, changed)
 
 
 class Library:
@@ -161,11 +162,6 @@ class Library:
 
     def file_fewest_callouts(self, data, buffer, cap):
         return self.on_file("rota_file_fewest_callouts", data, buffer, cap)
-
-
-def changed(answer):
-    """The names of what was lent and is not as it was."""
-    return [name for name, before, after in answer.lent if before != after]
 
 
 def left(answer, name):

@@ -1,4 +1,5 @@
 """Links to the rules, names in the table of words, and what the table of calls says of each call's answer and of what it writes."""
+import functools
 import glob
 import os
 import re
@@ -37,21 +38,25 @@ def links(doc, root):
     return len(rules), followed
 
 
-def words(doc, root):
-    """The names in the table of words are definitions of model, and names of the code or of the header."""
+@functools.lru_cache(maxsize=None)
+def known(root):
+    """The definitions of model, and the names in the code and in the header."""
     def texts(*parts):
         return "\n".join(read(path) for path in sorted(glob.glob(os.path.join(root, *parts))))
     specs = texts("crates", "model", "specs", "*.antt")
     code = texts("crates", "*", "src", "*.rt") + texts("include", "rota.h")
+    return set(re.findall(r"^ *(?:unfoldable |abbrev )?pub (?:record )?([\w-]+)", specs, re.M)), set(re.findall(r"\w+", code))
+
+
+def words(doc, root):
+    """The names in the table of words are definitions of model, and names of the code or of the header."""
+    definitions, code = known(root)
     rows, names = doc.table("Words", "here", "in the field", "definition", "in code"), 0
     for here, _, definition, used in rows:
-        for name in re.findall("`([^`]*)`", definition):
-            expect(re.search(r"^(unfoldable |abbrev )?pub (record )?%s\b" % re.escape(name), specs, re.M) or re.search(r"^ +abbrev pub %s\b" % name, specs, re.M),
-                   here, "- no definition", name)
-            names += 1
-        for name in re.findall("`([^`]*)`", used):
-            expect(re.search(r"\b%s\b" % re.escape(name), code), here, "- not in the code:", name)
-            names += 1
+        for column, there in ((definition, definitions), (used, code)):
+            for name in re.findall("`([^`]*)`", column):
+                expect(name in there, here, "- no such name:", name)
+                names += 1
     return len(rows), names
 
 

@@ -1,9 +1,8 @@
 """The order of tests: by the document a call gives the first number of its row that fits."""
-from document import expect, numbers
+from document import Wrong, expect, numbers
 from examples import BLANK
 from files import Layout
 from inputs import ON_FILES, ON_TABLES, chosen, files_at_bounds, on_file, on_tables, tables_at_bounds
-from library import changed
 from refusals import FILES, NEVER_BOTH, TABLES, Numbers, fits
 
 
@@ -46,11 +45,12 @@ class Order:
     def compare(self, call, x, wanted):
         """The library's answer is refused by this number, with what the document says; or it is none."""
         answer = (TABLES.get(call) or FILES[call])(self.library, x)
-        expect(answer.code == wanted, call, "by the document", wanted, "- the library answers", answer.code, str(x)[:300])
+        if answer.code != wanted:
+            raise Wrong("%s: by the document %d, the library answers %d: %s" % (call, wanted, answer.code, str(x)[:300]))
         if wanted:
             brings = self.numbers.brings[wanted]
             expect(all((value != 0) == (name in brings) for name, value in answer.numbers.items()), call, wanted, "brings", answer.numbers)
-            expect(answer.plan in (None, BLANK) and not changed(answer), call, wanted, "- a plan, or changed:", changed(answer))
+            expect(answer.plan in (None, BLANK) and not answer.changed, call, wanted, "- a plan, or changed:", answer.changed)
 
     def compare_text(self, x, wanted):
         text = self.program.text(x.data)

@@ -14,6 +14,7 @@ import files
 import names
 import order
 import pricing
+import prose
 import refusals
 import self_check
 from document import Document, Wrong
@@ -32,6 +33,7 @@ EXAMPLES = {
     "refusals in C": 15,
     "pairs of tests": 253,
     "calls": 13,
+    "sentences with numbers": 32,
     "words": 19,
     "rules linked": 33,
 }
@@ -41,7 +43,8 @@ class Rules:
     """The checks over a document. Each gives (examples, answers compared)."""
 
     def __init__(self, root, shared, listing):
-        self.root, self.library, self.program, self.known = root, Library(shared), files.Program(listing), {}
+        self.root, self.header = root, os.path.join(root, "include", "rota.h")
+        self.library, self.program, self.known = Library(shared), files.Program(listing), {}
 
     def checks(self):
         library = self.library
@@ -54,9 +57,10 @@ class Rules:
             "rows of a file's bytes": lambda doc: files.bytes_of_block(doc, library),
             "lines of T's dump": lambda doc: files.dump(doc, library)[1],
             "listings": lambda doc: files.listing(doc, self.program, files.dump(doc, library)[0]),
-            "refusals in C": lambda doc: refusals.in_header(doc, os.path.join(self.root, "include", "rota.h")),
+            "refusals in C": lambda doc: refusals.in_header(doc, self.header),
             "pairs of tests": lambda doc: order.order(doc, library, self.program, self.known),
             "calls": lambda doc: names.calls(doc, library, files.dump(doc, library)[0], self.root),
+            "sentences with numbers": lambda doc: prose.prose(doc, library, self.program, self.header),
             "words": lambda doc: names.words(doc, self.root),
             "rules linked": lambda doc: names.links(doc, self.root),
         }

@@ -4,6 +4,7 @@ A change of what an example asks may give an example that is true as well; so ma
 """
 import re
 
+import prose
 from document import NUMBER, Document, Wrong
 
 # The columns of a table that ask; those behind them answer. In all other tables every number is a rule's.
@@ -54,8 +55,31 @@ def unread_refused(rules, lines, more):
     return False
 
 
+def swapped(row):
+    """A row of numbers with two neighbours in each other's place, for each two."""
+    head, numbers = row.rstrip("| ").rsplit(" | ", 1)
+    parts = numbers.split(", ")
+    for k in range(len(parts) - 1):
+        yield "%s | %s |" % (head, ", ".join(parts[:k] + [parts[k + 1], parts[k]] + parts[k + 2:]))
+
+
+def sentences(rules, text):
+    """Every number of the sentences that are compared."""
+    places = []
+    prose.prose(Document(text), rules.library, rules.program, rules.header, places)
+    for start, end in places:
+        copy = text[:start] + str(int(text[start:end].replace(",", "")) + 1) + text[end:]
+        try:
+            prose.prose(Document(copy), rules.library, rules.program, rules.header)
+        except Wrong:
+            continue
+        raise Wrong("the test does not refuse: " + copy[start - 40:end + 40])
+    return len(places)
+
+
 def self_check(rules, examples, text, read):
-    """Every line that a check has read: each number changed, the line left out, a word more; in the table of words, which has names, the last two."""
+    """Every line that a check has read: the line left out, a word more, and each number changed, but in the table of words, which has names; in the
+    order of tests any two neighbours swapped too."""
     lines, document, tried, true = text.split("\n"), Document(text), 0, 0
     for place in sorted(set().union(*read.values())):
         line = lines[place]
@@ -63,15 +87,20 @@ def self_check(rules, examples, text, read):
             if not refused(rules, examples, lines, place, instead, read):
                 raise Wrong("the test does not refuse that this line is left out or longer: " + line)
         title = document.section_of(place)
+        for other in swapped(line) if title == "Order of tests" and not line.startswith("| call") else ():
+            tried += 1
+            if not refused(rules, examples, lines, place, [other], read):
+                raise Wrong("the test does not refuse: " + other)
         for at, changed in changes(line) if title != "Words" else ():
             tried += 1
             if not refused(rules, examples, lines, place, [changed], read):
                 if at >= asked(title, line):
                     raise Wrong("the test does not refuse: " + changed)
                 true += 1
+    tried += sentences(rules, text)
     for more in (["", "    T: nothing that is known"], ["| a |", "|---|", "| 1 |"]):
         if not unread_refused(rules, lines, more):
             raise Wrong("the test does not refuse what it does not read: " + more[-1])
     if true != STILL_TRUE:
         raise Wrong("%d changes of what is asked leave an example true, and there should be %d" % (true, STILL_TRUE))
-    print("rules: self-check: %d changed numbers; %d in what is asked leave the example true, all others are refused" % (tried, true))
+    print("rules: self-check: %d changes of a number or of an order; %d in what is asked leave the example true, all others are refused" % (tried, true))
