@@ -25,6 +25,15 @@ SENTENCES = (
     ("Lister", "each further call gives #", "no-further"),
     ("Lists of lister calls", "it gives #, or # if the rota has no complete plan", "no-further no-plan"),
     ("Listings", "up to # items its length is the count", "most-counted"),
+    ("Lists of lister calls", "tables that give # to #, or another rota that gives #, # or #.", "bad-n not-open not-a-plan no-plan no-further"),
+    ("Accepted rota", "none of the refusals # to # fits", "bad-n not-open"),
+    ("Accepted rota", "if none of #, #, #, # and # does", "length check layout outside not-open"),
+    ("Monthly price", "T has # plans", "plans-of-t"),
+    ("Monthly price", "rule # fits, and the grade is #", "rule-of-t grade-of-t"),
+    ("Monthly price", "# vehicles stand in the column", "fleet-of-t"),
+    ("Monthly price", "The rate of grade # there is #", "grade-of-t rate-of-t"),
+    ("Monthly price", "The fewest callouts are #", "callouts-of-t"),
+    ("Monthly price", "the price is # cents", "cents-of-t"),
     ("Grade", "has no grade: #.", "no-plan"),
     ("Monthly price", "never gives #.", "over-cap"),
     ("Blocks", "blocks of # bytes, # items in each block but the last", "block most-in-block"),
@@ -65,11 +74,21 @@ def codes(library, t):
         "too-many": library.count_plans(diagonal(21), 0).code,
         "short-tally": library.count_plans(t, 0).code,
         "no-room": library.usable_slots(t, 0).code,
+        "bad-n": library.first_plan(plain([])).code,
+        "length": library.read_file(b"", 3, 3).code,
         "check": library.read_file(wrong_check, 3, 3).code,
         "layout": library.read_file(bytes(file), 3, 3).code,
         "outside": library.first_plan(plain([2])).code,
         "not-open": library.first_plan(plain([1], [2])).code,
     }
+
+
+def price(library, t):
+    """T's price for 100 vehicles; the rate is what one vehicle more costs. Rule 4 gives grade 3, by the rules that pricing.py tries."""
+    hundred, more = (library.monthly_price(t, vehicles, 8).numbers["cents"] for vehicles in (100, 101))
+    grade = library.grade(t, 8).numbers["grade"]
+    return {"plans-of-t": library.count_plans(t, 8).numbers["count"], "rule-of-t": {3: 4}.get(grade), "grade-of-t": grade, "fleet-of-t": 100,
+            "rate-of-t": more - hundred, "callouts-of-t": library.fewest_callouts(t, 64).numbers["callouts"], "cents-of-t": hundred}
 
 
 def figures(library, program, t):
@@ -113,7 +132,7 @@ def prose(doc, library, program, header, places=None):
     t, text, compared = rota_t(doc), "\n".join(doc.lines), 0
     with open(header) as declared:
         (bits,) = set(re.findall(r"uint(\d+)_t cap\b", declared.read()))
-    known = {"cap": int(bits), **codes(library, t), **figures(library, program, t)}
+    known = {"cap": int(bits), **codes(library, t), **price(library, t), **figures(library, program, t)}
     for title, sentence, wanted in SENTENCES:
         for (start, end), name in zip(numbers_in(doc, title, sentence), wanted.split()):
             expect(int(text[start:end].replace(",", "")) == known[name], title, "-", sentence, "- the library has", known[name])

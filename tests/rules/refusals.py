@@ -61,7 +61,7 @@ class Numbers:
 
     def __init__(self, doc):
         self.bounds, self.brings, self.names = {}, {}, {}
-        for place, (code, name, fits, brings) in enumerate(doc.table("Numbers", "number", "in C", "fits if", "brings")):
+        for place, (code, name, fits, brings) in enumerate(doc.table("Refusal numbers", "number", "in C", "fits if", "brings")):
             expect(number(code) == place + 1 and place + 1 in FITS, "refusal", code)
             expect(brings in BRINGS, "not understood:", brings)
             self.bounds[place + 1] = tuple(number(part) for part in match(re.escape(FITS[place + 1]).replace("\\#", "#").replace("\\ ", " "), fits))

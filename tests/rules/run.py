@@ -22,7 +22,7 @@ from library import Library
 
 # How many examples of each kind the document has. Another number fails.
 EXAMPLES = {
-    "example lines": 69,
+    "example lines": 65,
     "lister calls": 9,
     "grade rules": 5,
     "rates": 15,
@@ -33,8 +33,8 @@ EXAMPLES = {
     "refusals in C": 15,
     "pairs of tests": 253,
     "calls": 13,
-    "sentences with numbers": 32,
-    "words": 19,
+    "sentences with numbers": 41,
+    "words": 20,
     "rules linked": 33,
 }
 
