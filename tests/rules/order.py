@@ -36,7 +36,7 @@ class Order:
             key = (call if code == 15 else "", code, "tables" if call in TABLES else "files", place)
             if key not in self.known:
                 expect(code in self.numbers.bounds, call, "tests", code)
-                expect((code in (12, 13, 14)) <= (x.data is not None), call, "tests", code, "without a file")
+                expect(call in FILES or code not in (12, 13, 14), call, "tests", code, "without a file")
                 self.known[key] = fits(self.numbers, self.layout, call, code, x)
             if self.known[key]:
                 found.append(code)

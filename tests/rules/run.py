@@ -3,8 +3,9 @@
 
 usage: tests/rules/run.py ROOT SHARED LISTING [--self-check]
 
-ROOT is the repository, SHARED the library as a shared object, LISTING the listing program. What is expected comes from the document. With --self-check
-each number of each example is changed in a copy of the document, and the test must refuse the copy.
+ROOT is the repository, SHARED the library as a shared object, LISTING the listing program. What is expected comes from the document. Every example and
+every table that it has is read; one that is not understood fails. With --self-check each number is changed in a copy of the document, and the test must
+refuse the copy (self_check.py).
 """
 import os
 import sys
