@@ -1,8 +1,9 @@
 """Numbers that stand in the rules' sentences. What each should be is found out from the library: the code that a call gives, the bound at which it gives it."""
 import re
 
-from document import NUMBER, expect
+from document import NUMBER, expect, match, number
 from files import sample
+from pricing import rules
 from rotas import plain, rota_t, with_plans
 
 # A rule, a sentence of it with # for each number, and the names of what is found out below.
@@ -85,12 +86,15 @@ def codes(library, t):
     }
 
 
-def price(library, t):
-    """T's price for 100 vehicles; the rate is what one vehicle more costs. Rule 4 gives grade 3, by the rules that pricing.py tries."""
-    hundred, more = (library.monthly_price(t, vehicles, 8).numbers["cents"] for vehicles in (100, 101))
+def price(doc, library, t):
+    """T's price for the fleet of the sum; the rate is what one vehicle more costs. The rule is the one that gives the library's grade."""
+    (line,) = doc.indented("Monthly price", "[0-9]+ ×")
+    fleet = number(match("# × # .*", line)[1])
+    cents, more = (library.monthly_price(t, vehicles, 8).numbers["cents"] for vehicles in (fleet, fleet + 1))
     grade = library.grade(t, 8).numbers["grade"]
-    return {"plans-of-t": library.count_plans(t, 8).numbers["count"], "rule-of-t": {3: 4}.get(grade), "grade-of-t": grade, "fleet-of-t": 100,
-            "rate-of-t": more - hundred, "callouts-of-t": library.fewest_callouts(t, 64).numbers["callouts"], "cents-of-t": hundred}
+    (rule,) = [place + 1 for place, row in enumerate(rules(doc)) if row[3] == grade]
+    return {"plans-of-t": library.count_plans(t, 8).numbers["count"], "rule-of-t": rule, "grade-of-t": grade, "fleet-of-t": fleet,
+            "rate-of-t": more - cents, "callouts-of-t": library.fewest_callouts(t, 64).numbers["callouts"], "cents-of-t": cents}
 
 
 def figures(library, program, t):
@@ -134,7 +138,7 @@ def prose(doc, library, program, header, places=None):
     t, text, compared = rota_t(doc), "\n".join(doc.lines), 0
     with open(header) as declared:
         (bits,) = set(re.findall(r"uint(\d+)_t cap\b", declared.read()))
-    known = {"cap": int(bits), **codes(library, t), **price(library, t), **figures(library, program, t)}
+    known = {"cap": int(bits), **codes(library, t), **price(doc, library, t), **figures(library, program, t)}
     for title, sentence, wanted in SENTENCES:
         for (start, end), name in zip(numbers_in(doc, title, sentence), wanted.split()):
             expect(int(text[start:end].replace(",", "")) == known[name], title, "-", sentence, "- the library has", known[name])
