@@ -1,0 +1,199 @@
+"""Worked examples: `ROTA: asked → answer`, the table of worked rotas, the lister's table and the tally's. The library computes, the document expects."""
+from document import Wrong, expect, match, number, numbers, span
+from library import FILL, left, words_of
+from rotas import named, padded, rota_t
+
+BLANK = bytes([255] * 64)
+FRESH = bytes(65)
+
+
+class Expected:
+    """An answer as the document writes it: a refusal with what it brings, or what is asked for."""
+
+    def __init__(self, text):
+        first, *named_numbers = text.split(", ") if text.startswith("refused ") else [text]
+        self.code = number(first[len("refused "):]) if text.startswith("refused ") else 0
+        self.brings = {}
+        for part in named_numbers:
+            name, value = match("(items|shortage|callouts) #", part)
+            self.brings[name] = number(value)
+        self.text = text
+
+
+def plan_of(text):
+    """The 64 bytes of `0 1 2` or `0 to 63`."""
+    if " to " in text:
+        first, last = span(text)
+        slots = list(range(first, last + 1))
+    else:
+        slots = [number(part) for part in text.split(" ")]
+    expect(all(slot < 256 for slot in slots) and len(slots) <= 64, "no plan:", text)
+    return padded(slots)
+
+
+def agrees(answer, code, what, plan=None, **given):
+    """The answer has this number, these other numbers and zeros else, and this plan; refused, it is blank and nothing lent is changed."""
+    expect(answer.code == code, what, "- the library answers", answer.code)
+    for name, value in answer.numbers.items():
+        expect(value == given.get(name, 0), what, "- the library answers", name, value)
+    expect(set(given) <= set(answer.numbers), what, "- no such number in the answer")
+    if answer.plan is not None:
+        expect(answer.plan == (plan if code == 0 else BLANK), what, "- the library gives", list(answer.plan))
+    if code:
+        expect(not answer.changed, what, "- refused, and changed:", answer.changed)
+
+
+class Asked:
+    """The questions that a document may ask of a rota; each gives how many answers were compared."""
+
+    def __init__(self, library, file_of):
+        self.library = library
+        self.file_of = file_of  # the file of a rota by the document's layout, or None where it has none
+
+    def on_file(self, rota, call, expected, plan, given=BLANK, **cap):
+        """The same question to the call on the rota's file, with a plan buffer of 70 bytes."""
+        data = self.file_of(rota)
+        if data is None:
+            return 0
+        answer = call(data, given + FILL * 6, **cap)
+        agrees(answer, expected.code, expected.text)
+        if not expected.code:
+            expect(left(answer, "plan") == plan + FILL * 6, expected.text, "- the plan buffer holds", list(left(answer, "plan")))
+        return 1
+
+    def first_plan(self, rota, text):
+        expected = Expected(text)
+        plan = None if expected.code else plan_of(text)
+        agrees(self.library.first_plan(rota), expected.code, text, plan, **expected.brings)
+        agrees(self.library.list_plan(rota, FRESH), expected.code, text, plan, **expected.brings)
+        return 2 + self.on_file(rota, self.library.file_first_plan, expected, plan)
+
+    def next_plan(self, rota, given, text):
+        expected, given = Expected(text), plan_of(given)
+        plan = None if expected.code else plan_of(text)
+        agrees(self.library.next_plan(rota, given), expected.code, text, plan, **expected.brings)
+        agrees(self.library.list_plan(rota, b"\1" + given), expected.code, text, plan, **expected.brings)
+        return 2 + self.on_file(rota, self.library.file_next_plan, expected, plan, given)
+
+    def fewest(self, rota, cap, text):
+        expected = Expected(text)
+        if expected.code:
+            plan, brings = None, expected.brings
+        else:
+            slots, callouts = match("([0-9 ]+|# to #), callouts #", text)[0::3]
+            plan, brings = plan_of(slots), {"callouts": number(callouts)}
+        agrees(self.library.fewest_callouts(rota, number(cap)), expected.code, text, plan, **brings)
+        return 1 + self.on_file(rota, self.library.file_fewest_callouts, expected, plan, cap=number(cap))
+
+    def plans(self, rota, text):
+        """All of them: by a lister up to its first refusal, 10, or 9 if there is none; and each from the one before."""
+        lister, got = FRESH, []
+        answer = self.library.list_plan(rota, lister)
+        while answer.code == 0:
+            got.append(answer.plan)
+            lister = left(answer, "lister")
+            answer = self.library.list_plan(rota, lister)
+        wanted = [] if text == "none" else [plan_of(part) for part in text.split(", ")]
+        expect(got == wanted and answer.code == (10 if wanted else 9), text, "- the lister gives", [list(plan) for plan in got])
+        for before, after in zip(wanted, wanted[1:]):
+            agrees(self.library.next_plan(rota, before), 0, text, after)
+        return max(1, len(wanted))
+
+    def callouts_of(self, rota, plan, text):
+        """The fewest callouts where only the plan's cells are open."""
+        n, opens, callouts = rota
+        cells = tuple(1 << slot for slot in plan_of(plan)[:n])
+        expect(all(cell & word for cell, word in zip(cells, opens)), "a cell that is not open:", plan)
+        alone = (n, cells, tuple(word & cell for word, cell in zip(callouts, cells)))
+        agrees(self.library.fewest_callouts(alone, 64), 0, text, plan_of(plan), callouts=number(text))
+        return 1
+
+    def usable(self, rota, text):
+        answer = self.library.usable_slots(rota, rota[0] + 2)
+        agrees(answer, 0, text)
+        words = words_of(left(answer, "usable"))
+        expect(list(words[:-2]) == numbers(text) and left(answer, "usable").endswith(FILL * 16), text, "- the library writes", words)
+        return 1
+
+    def tally(self, rota, text):
+        answer = self.library.count_plans(rota, (1 << rota[0]) + 3)
+        words = words_of(left(answer, "tally"))
+        expect(answer.code == 0 and list(words[:-3]) == numbers(text), text, "- the library writes", words)
+        expect(left(answer, "tally").endswith(FILL * 24), text, "- further words of the tally are changed")
+        return 1
+
+    def number_of(self, rota, text, call, name):
+        expected = Expected(text)
+        agrees(call, expected.code, text, **(expected.brings if expected.code else {name: number(text)}))
+        if not expected.code:
+            held = left(call, "tally")
+            expect(held == left(self.library.count_plans(rota, len(held) // 8), "tally"), text, "- the tally is not the count's")
+            expect(held.endswith(FILL * 16), text, "- further words of the tally are changed")
+        return 1
+
+    def file(self, rota, text):
+        (size,) = match("# bytes", text)
+        answer = self.library.write_file(rota, number(size) + 9)
+        agrees(answer, 0, text, bytes=number(size))
+        expect(left(answer, "file") == self.file_of(rota) + FILL * 9, text, "- the library writes other bytes")
+        return 1
+
+    def answer(self, rota, asked, text):
+        """One example."""
+        words = asked.split(" ")
+        tally = 2 + (1 << min(rota[0], 20))
+        by_name = {"plans": self.plans, "first plan": self.first_plan, "usable table": self.usable, "tally": self.tally, "file": self.file}
+        if asked in by_name:
+            return by_name[asked](rota, text)
+        if asked == "count":
+            return self.number_of(rota, text, self.library.count_plans(rota, tally), "count")
+        if asked == "grade":
+            return self.number_of(rota, text, self.library.grade(rota, tally), "grade")
+        if words[0] == "price,":
+            (vehicles,) = match("price, # vehicles", asked)
+            return self.number_of(rota, text, self.library.monthly_price(rota, number(vehicles), tally), "cents")
+        if words[0] == "fewest":
+            return self.fewest(rota, *match("fewest callouts, cap #", asked), text)
+        if words[0] == "next":
+            return self.next_plan(rota, *match("next plan after ([0-9 ]+)", asked), text)
+        if words[0] == "callouts":
+            return self.callouts_of(rota, *match("callouts of ([0-9 ]+)", asked), text)
+        raise Wrong("not understood: " + asked)
+
+
+def lines(doc, library, file_of):
+    """The indented lines with an arrow, wherever they stand, and the table of worked rotas: examples, and answers compared."""
+    asked, t, examples, answers = Asked(library, file_of), rota_t(doc), 0, 0
+    for title in doc.sections:
+        for line in doc.indented(title, ".* → "):
+            rota, question, answer = match("([^:]*): (.*) → (.*)", line)
+            answers += asked.answer(named(t, rota), question, answer)
+            examples += 1
+    for rota, questions, texts in doc.table("Worked rotas", "rota", "asked", "answer"):
+        expect(questions.count(";") == texts.count(";"), "questions and answers of", rota)
+        for question, answer in zip(questions.split("; "), texts.split("; ")):
+            answers += asked.answer(named(t, rota), question, answer)
+            examples += 1
+    return examples, answers
+
+
+def lister(doc, library):
+    """The table of lister calls: each answer, and the lister after it."""
+    t = rota_t(doc)
+    (over, answer, began), *rows = doc.table("Lists of lister calls", "call over", "answer", "lister afterwards")
+    expect(over == answer == "", "the first row is the lister as it begins")
+
+    def state(text):
+        flag, plan = match("(fresh|started), ([0-9 ]+)", text)
+        return bytes([flag == "started"]) + plan_of(plan)
+
+    held = state(began)
+    expect(held[0] == 0, "a list of calls begins with a fresh lister")
+    for over, text, after in rows:
+        expected = Expected(text)
+        found = library.list_plan(named(t, over), held)
+        agrees(found, expected.code, over + ": " + text, None if expected.code else plan_of(text), **expected.brings)
+        held = left(found, "lister")
+        expect(held == state(after), over, "- the lister is not", after)
+    return len(rows), 2 * len(rows)
+

@@ -1,0 +1,148 @@
+"""Numbers that stand in the rules' sentences. What each should be is found out from the library: the code that a call gives, the bound at which it gives it."""
+import re
+
+from document import NUMBER, expect, match, number
+from files import sample
+from pricing import rules
+from rotas import plain, rota_t, with_plans
+
+# A rule, a sentence of it with # for each number, and the names of what is found out below.
+SENTENCES = (
+    ("Items and slots", "n is # to #", "least-n most-n"),
+    ("Open and callout words", "two tables of n #-bit words", "word"),
+    ("Plan record", "a record of # bytes", "plan"),
+    ("Blank plan", "is # bytes of #", "plan blank"),
+    ("First plan", "; # if there is none", "no-plan"),
+    ("Next plan", "(else #); # if none follows", "not-a-plan no-further"),
+    ("Next plan", "the answer is # and never #", "not-a-plan no-plan"),
+    ("Fewest callouts", "; # if there is no plan. If the number exceeds the cap r, a #-bit number, the answer is #", "no-plan cap over-cap"),
+    ("Usable table", "all n words are #, and that is no refusal", "unusable"),
+    ("Shortage", "Comes with refusal #.", "no-plan"),
+    ("Count", "For n up to #; above, #. A count of # is a success.", "most-counted too-many no-plans"),
+    ("Count", "whether n is above #", "most-counted"),
+    ("Tally", "at least # to the power n of them (else #)", "tally-base short-tally"),
+    ("Lister", "the first plan, or #, and never #", "no-plan not-a-plan"),
+    ("Lister", ": # if that is no complete plan of this rota, # if none follows", "not-a-plan no-further"),
+    ("Lister", "each further call gives #", "no-further"),
+    ("Lists of lister calls", "it gives #, or # if the rota has no complete plan", "no-further no-plan"),
+    ("Listings", "up to # items its length is the count", "most-counted"),
+    ("Lists of lister calls", "tables that give # to #, or another rota that gives #, # or #.", "bad-n not-open not-a-plan no-plan no-further"),
+    ("Accepted rota", "none of the refusals # to # fits", "bad-n not-open"),
+    ("Accepted rota", "if none of #, #, #, # and # does", "length check layout outside not-open"),
+    ("Monthly price", "T has # plans", "plans-of-t"),
+    ("Monthly price", "rule # fits, and the grade is #", "rule-of-t grade-of-t"),
+    ("Monthly price", "# vehicles stand in the column", "fleet-of-t"),
+    ("Monthly price", "The rate of grade # there is #", "grade-of-t rate-of-t"),
+    ("Monthly price", "The fewest callouts are #", "callouts-of-t"),
+    ("Monthly price", "the price is # cents", "cents-of-t"),
+    ("Grade", "has no grade: #.", "no-plan"),
+    ("Monthly price", "never gives #.", "over-cap"),
+    ("Blocks", "blocks of # bytes, # items in each block but the last", "block most-in-block"),
+    ("Reading and writing", "; # if one of them has fewer than n places", "no-room"),
+    ("Reading and writing", "; # if it has fewer", "no-room"),
+    ("Plans from a file", "at least # bytes (else #)", "plan no-room"),
+    ("Plans from a file", "with # no item set and with # no fewest number", "no-plan over-cap"),
+    ("Plans from a file", "the buffer's first # bytes", "plan"),
+    ("Listing program", "After # plans, if one more follows, the last line is `more #`", "listed listed"),
+    ("Listing program", "Every line ends with byte #.", "line-end"),
+    ("Order of tests", "# over all blocks before # over any, # over all items before #.", "check layout outside not-open"),
+    ("Order of tests", "# comes right after #", "no-room not-open"),
+    ("Zeros", "what # and # bring", "no-plan over-cap"),
+    ("Lent things", "With # grade and price leave the tally as it was", "no-plan"),
+)
+
+
+def least(holds):
+    """The least number from 0 that passes the test."""
+    found = next((n for n in range(100) if holds(n)), None)
+    expect(found is not None, "the library never changes its answer where a bound is looked for")
+    return found
+
+
+def diagonal(n):
+    return plain([1 << i if i < 64 else 0 for i in range(n)])
+
+
+def codes(library, t):
+    """The numbers that refused calls give."""
+    none, last = plain([0, 3]), bytes([1, 0, 2]) + bytes(61)
+    file = bytearray(library.write_file(t, 512).lent[-1][2])
+    wrong_check = bytes(file[:-1]) + b"\0"
+    file[13], file[510] = 1, file[510] + 1
+    return {
+        "no-plan": library.first_plan(none).code,
+        "not-a-plan": library.next_plan(t, bytes(64)).code,
+        "no-further": library.next_plan(t, last).code,
+        "over-cap": library.fewest_callouts(t, 0).code,
+        "too-many": library.count_plans(diagonal(21), 0).code,
+        "short-tally": library.count_plans(t, 0).code,
+        "no-room": library.usable_slots(t, 0).code,
+        "bad-n": library.first_plan(plain([])).code,
+        "length": library.read_file(b"", 3, 3).code,
+        "check": library.read_file(wrong_check, 3, 3).code,
+        "layout": library.read_file(bytes(file), 3, 3).code,
+        "outside": library.first_plan(plain([2])).code,
+        "not-open": library.first_plan(plain([1], [2])).code,
+    }
+
+
+def price(doc, library, t):
+    """T's price for the fleet of the sum; the rate is what one vehicle more costs. The rule is the one that gives the library's grade."""
+    (line,) = doc.indented("Monthly price", "[0-9]+ ×")
+    fleet = number(match("# × # .*", line)[1])
+    cents, more = (library.monthly_price(t, vehicles, 8).numbers["cents"] for vehicles in (fleet, fleet + 1))
+    grade = library.grade(t, 8).numbers["grade"]
+    (rule,) = [place + 1 for place, row in enumerate(rules(doc)) if row[3] == grade]
+    return {"plans-of-t": library.count_plans(t, 8).numbers["count"], "rule-of-t": rule, "grade-of-t": grade, "fleet-of-t": fleet,
+            "rate-of-t": more - cents, "callouts-of-t": library.fewest_callouts(t, 64).numbers["callouts"], "cents-of-t": cents}
+
+
+def figures(library, program, t):
+    """Sizes and bounds, by where the answers change."""
+    blank = library.first_plan(plain([0])).plan
+    expect(len(set(blank)) == 1, "a refused call's plan is not one byte over and over")
+    least_n = least(lambda n: library.first_plan(diagonal(n)).code != 1)
+    file = library.write_file(t, 1600)
+    long = program.text(library.write_file(with_plans(1001), 512).lent[-1][2])
+    return {
+        "least-n": least_n,
+        "most-n": least(lambda n: n > least_n and library.first_plan(diagonal(n)).code == 1) - 1,
+        "word": least(lambda n: n > 0 and library.first_plan((n, (0,) * (n - 1) + (2 ** 64 - 1,), (0,) * n)).code == 9),
+        "plan": least(lambda n: library.file_first_plan(file.lent[-1][2][:512], bytes(n)).code == 0),
+        "blank": blank[0],
+        "unusable": max(library.usable_slots(plain([0, 3]), 2).lent[-1][2]),
+        "no-plans": library.count_plans(plain([0]), 2).numbers["count"],
+        "most-counted": least(lambda n: n > 0 and library.count_plans(diagonal(n), 0).code == 5) - 1,
+        "tally-base": least(lambda n: library.count_plans(diagonal(1), n).code == 0),
+        "block": file.numbers["bytes"],
+        "most-in-block": least(lambda n: n > 0 and library.write_file(sample(n), 1600).numbers["bytes"] > 512) - 1,
+        "listed": int(long.split()[-1]),
+        "line-end": ord(long[-1]),
+    }
+
+
+def numbers_in(doc, title, sentence):
+    """The places and the texts of a sentence's numbers, in the whole document."""
+    first, last = doc.section(title)[0], doc.section(title)[-1]
+    begins = sum(len(line) + 1 for line in doc.lines[:first])
+    text = "\n".join(doc.lines[first:last + 1])
+    form = re.escape(sentence).replace(r"\#", "(%s)" % NUMBER).replace(r"\ ", r"\s+")
+    found = re.findall(form, text)
+    expect(len(found) == 1, title, "- not once:", sentence)
+    groups = re.search(form, text)
+    return [(begins + groups.start(k + 1), begins + groups.end(k + 1)) for k in range(sentence.count("#"))]
+
+
+def prose(doc, library, program, header, places=None):
+    """Each number of each sentence; `places` gets their places in the document. The bits of a cap are the header's."""
+    t, text, compared = rota_t(doc), "\n".join(doc.lines), 0
+    with open(header) as declared:
+        (bits,) = set(re.findall(r"uint(\d+)_t cap\b", declared.read()))
+    known = {"cap": int(bits), **codes(library, t), **price(doc, library, t), **figures(library, program, t)}
+    for title, sentence, wanted in SENTENCES:
+        for (start, end), name in zip(numbers_in(doc, title, sentence), wanted.split()):
+            expect(int(text[start:end].replace(",", "")) == known[name], title, "-", sentence, "- the library has", known[name])
+            compared += 1
+            if places is not None:
+                places.append((start, end))
+    return len(SENTENCES), compared

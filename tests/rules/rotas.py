@@ -1,0 +1,115 @@
+"""Rotas as the document names them, and what the test finds out about a rota by itself: by trying all plans of a small one.
+
+A rota is (n, open words, callout words), as a call gets it; it may be one that is refused.
+"""
+import functools
+
+from document import Wrong, expect, match, number, numbers
+
+
+def plain(opens, callouts=None):
+    return len(opens), tuple(opens), tuple(callouts or [0] * len(opens))
+
+
+def rota_t(doc):
+    """T, from its table."""
+    rows = doc.table("Rota T", "item", "open slots", "open word", "callout slots", "callout word")
+    for place, (item, open_slots, open_word, callout_slots, callout_word) in enumerate(rows):
+        expect(number(item) == place, "item", item)
+        for slots, word in ((open_slots, open_word), (callout_slots, callout_word)):
+            expect(sum(1 << slot for slot in numbers(slots)) == number(word), "slots", slots, "are not the word", word)
+    return plain([number(row[2]) for row in rows], [number(row[4]) for row in rows])
+
+
+def named(t, text):
+    """The rota that these words of the document mean."""
+    if text == "T":
+        return t
+    if text.startswith("open words "):
+        words = numbers(text[len("open words "):])
+        expect(all(word < 1 << 64 for word in words), "a word above 64 bits:", text)
+        return plain(words)
+    if text.endswith(" items, every cell open"):
+        (n,) = match("# items, every cell open", text)
+        return plain([(1 << min(number(n), 64)) - 1] * number(n))
+    n, slot = map(number, match("# items, slot # open to each", text))
+    expect(slot < 64, "no bit of a word:", text)
+    return plain([1 << slot] * n)
+
+
+# ---- a rota's plans, by trying
+
+def padded(slots):
+    return bytes(slots) + bytes(64 - len(slots))
+
+
+def word_at(words, i):
+    return words[i] if i < len(words) else 0
+
+
+@functools.lru_cache(maxsize=None)
+def plans(rota):
+    """The complete plans as records, in dictionary order. For rotas that have few; of more than 64 items or none there are none."""
+    n, opens, _ = rota
+    if not 1 <= n <= 64:
+        return ()
+
+    @functools.lru_cache(maxsize=None)
+    def rest(i, taken):
+        if i == n:
+            return ((),)
+        free = word_at(opens, i) & ~taken
+        return tuple((j,) + tail for j in range(n) if free >> j & 1 for tail in rest(i + 1, taken | 1 << j))
+
+    return tuple(padded(slots) for slots in rest(0, 0))
+
+
+def callouts_of(rota, plan):
+    n, _, callouts = rota
+    return sum(word_at(callouts, i) >> plan[i] & 1 for i in range(n))
+
+
+# ---- rotas with a known number of plans
+
+def with_plans(wanted, one_open_slot=False):
+    """A rota with so many complete plans, and with an item of just one open slot or without, if that can be had.
+
+    Item i may use slot i + 1, and of the slots up to i some. A plan is a cut of 0 .. k into runs: in a run from a to b item b has slot a, and the
+    others the slot after their own. So with f(a) plans of the first a items, the last item of k adds up f(a) over its slots a. With all slots
+    open f is 1, 1, 2, 4, 8, ..; the last item's slots make any sum of these.
+    """
+    if wanted == 1:
+        return plain([1])  # where there is one plan alone, some item has just one open slot
+    ways = [1, 1]
+    while sum(ways) < wanted:
+        ways.append(sum(ways))
+    last, missing = 0, wanted
+    for a in reversed(range(len(ways))):
+        if ways[a] <= missing and ways[a] < wanted:
+            last |= 1 << a
+            missing -= ways[a]
+    k = len(ways)
+    opens = [(2 << (i + 1)) - 1 for i in range(k - 1)] + [last]
+    if missing:
+        raise Wrong("no rota of %d plans" % wanted)
+    return plain(opens + [1 << k] if one_open_slot else opens)
+
+
+@functools.lru_cache(maxsize=None)
+def count(rota):
+    """The number of complete plans, item after item over the sets of slots."""
+    n, opens, _ = rota
+    ways = {0: 1}
+    for word in opens:
+        following = {}
+        for taken, number_of in ways.items():
+            for j in range(n):
+                if word & ~taken & 1 << j:
+                    following[taken | 1 << j] = following.get(taken | 1 << j, 0) + number_of
+        ways = following
+    return sum(ways.values())
+
+
+def some_forced(rota):
+    """Some item has just one open slot."""
+    return any(bin(word).count("1") == 1 for word in rota[1])
