@@ -1,6 +1,5 @@
 // LEMON: a maximum matching of a general graph (it has none for bipartite ones alone), a perfect matching of greatest weight, and a flow
-// of least cost by the network simplex. The graphs are of the kinds that LEMON builds fastest. Nodes 0 to n - 1 are items, n to
-// 2n - 1 slots.
+// of least cost by the network simplex. Nodes 0 to n - 1 are items, n to 2n - 1 slots.
 #ifndef LEMON_PEER_H
 #define LEMON_PEER_H
 

@@ -270,7 +270,7 @@ fn main() {
     }
     let rounds = argument.map_or(1500, |text| text.parse().expect("the rounds are a number"));
     let mut report = Report::new(rounds);
-    machine();
+    machine(rounds);
     plans(&mut report, 64, families(64));
     plans(&mut report, 20, counted(20));
     counts(&mut report, 20);

@@ -86,13 +86,13 @@ pub fn heading(title: &str, first: &str, calls: &[&str]) {
     println!();
 }
 
-/// The machine, and how many programs wanted to run in the last minute.
-pub fn machine() {
+/// The machine, how many programs wanted to run in the last minute, and the rounds.
+pub fn machine(rounds: u32) {
     let read = |path| std::fs::read_to_string(path).unwrap_or_default();
     let info = read("/proc/cpuinfo");
     let name = info.lines().find_map(|line| line.strip_prefix("model name")).unwrap_or("unknown");
     let name = name.trim_start_matches(|c: char| c.is_whitespace() || c == ':');
     let load = read("/proc/loadavg");
     let load = load.split(' ').next().unwrap_or("unknown");
-    println!("Machine: {}, {name}; load {load}", std::env::consts::ARCH);
+    println!("Machine: {}, {name}; load {load}; {rounds} rounds", std::env::consts::ARCH);
 }
