@@ -136,7 +136,34 @@ pub fn hardest(n: usize) -> Rota {
     Rota { opens, callouts: (0..n).map(|i| 1 << i).collect() }
 }
 
+/// The last item may use slot 0 alone, and moves every other item on by one slot: the longest chain that a search can meet.
+fn longest(n: usize) -> Rota {
+    plain(n, |i| if i == n - 1 { 1 } else { slots(i, i + 2) })
+}
+
 /// The families that are counted.
 pub fn counted(n: usize) -> Vec<Family> {
     vec![one("dense", dense(n)), random("random 6 and a plan", |r| hidden(n, 6, r)), one("triangle up", triangle_up(n))]
+}
+
+/// The families that go to the programs in C, of n items.
+pub fn lent(n: usize) -> Vec<Family> {
+    let mut list = if n == 64 { families(n) } else { small(n) };
+    list.push(one("triangle up, callouts on the diagonal alone", hardest(n)));
+    list.push(one("longest chain", longest(n)));
+    list
+}
+
+/// The same where n is below the 32 slots that some families have.
+fn small(n: usize) -> Vec<Family> {
+    vec![
+        one("dense", dense(n)),
+        random("random 6 and a plan", |r| hidden(n, 6, r)),
+        random("random 6 and a plan, random callouts", |r| random_callouts(hidden(n, 6, r), r)),
+        random("scrambled triangle, random callouts", |r| random_callouts(scrambled(triangle_up(n), r), r)),
+        one("cycle", cycle(n)),
+        random("scrambled cycle", |r| scrambled(cycle(n), r)),
+        random("scrambled chain", |r| scrambled(chain_up(n), r)),
+        random("short: random 2", |r| scattered(n, 2, r)),
+    ]
 }

@@ -4,19 +4,23 @@ mod families;
 mod library;
 mod random;
 mod records;
+mod report;
 mod same;
 mod side;
 mod timing;
 
 use families::{counted, families, hardest, Family, Rota};
-use records::{Lister, Plan};
+use records::{Lister, Plan, PlanAnswer};
+use report::{heading, machine, Report};
 use side::{Side, LIBRARY, RUST};
 use std::fmt::Debug;
 use std::hint::black_box;
-use timing::{times, Times};
+use timing::times;
 
-const MOST_RATIO: f64 = 1.3;
 const VEHICLES: u64 = 500;
+
+/// The family of the tables that have one alone.
+const HIDDEN: &str = "random 6 and a plan";
 
 /// Ends the program if the two sides differ.
 fn agree<T: PartialEq + Debug>(what: &str, call: impl Fn(&Side) -> T) -> T {
@@ -25,62 +29,35 @@ fn agree<T: PartialEq + Debug>(what: &str, call: impl Fn(&Side) -> T) -> T {
     library
 }
 
-/// Prints the tables' cells, and keeps what misses its target.
-struct Report {
-    rounds: u32,
-    missed: Vec<String>,
-}
-
-impl Report {
-    fn cell(&mut self, what: String, most: Option<f64>, t: Times) {
-        print!(" {} | {} | {:.2} |", digits(t.library), digits(t.rust), t.ratio());
-        let slow = most.is_some_and(|most| t.library > most);
-        if slow || t.ratio() > MOST_RATIO {
-            let limit = most.map_or(String::new(), |most| format!(" (limit {most} µs)"));
-            self.missed.push(format!("{what}: {} µs{limit}, ratio {:.2}", digits(t.library), t.ratio()));
+/// The first plan of each rota. Ends the program if the two sides differ on a rota that is timed, or on the plans that follow.
+fn compare_plans(n: usize, Family { name, rotas }: &Family) -> Vec<PlanAnswer> {
+    let compare = |r: &Rota| {
+        let first = agree(name, |s| (s.first_plan)(n, &r.opens, &r.callouts));
+        agree(name, |s| (s.next_plan)(n, &r.opens, &r.callouts, first.plan));
+        agree(name, |s| (s.fewest_callouts)(n, &r.opens, &r.callouts, u32::MAX));
+        agree(name, |s| {
+            let mut usable = vec![0; n];
+            ((s.usable_slots)(n, &r.opens, &r.callouts, &mut usable), usable)
+        });
+        // The walk goes on for a while, to compare more plans.
+        let mut plan: Plan = first.plan;
+        for _ in 0..100 {
+            let next = agree(name, |s| (s.next_plan)(n, &r.opens, &r.callouts, plan));
+            if next.code != 0 {
+                break;
+            }
+            plan = next.plan;
         }
-    }
-}
-
-fn digits(us: f64) -> String {
-    if us < 100.0 {
-        format!("{us:.2}")
-    } else {
-        format!("{us:.0}")
-    }
-}
-
-fn heading(first: &str, calls: &[&str]) {
-    print!("\n| {first} |");
-    calls.iter().for_each(|call| print!(" {call} | Rust | ratio |"));
-    print!("\n|---|");
-    calls.iter().for_each(|_| print!("--:|--:|--:|"));
-    println!();
+        first
+    };
+    rotas.iter().map(compare).collect()
 }
 
 fn plans(report: &mut Report, n: usize, families: Vec<Family>) {
-    println!("\nPlans, n = {n}, µs a call");
-    heading("family", &["first", "next", "usable", "fewest"]);
-    for Family { name, rotas } in families {
-        let first: Vec<_> = rotas.iter().map(|r| agree(name, |s| (s.first_plan)(n, &r.opens, &r.callouts))).collect();
-        for (r, first) in rotas.iter().zip(&first) {
-            agree(name, |s| (s.next_plan)(n, &r.opens, &r.callouts, first.plan));
-            agree(name, |s| (s.fewest_callouts)(n, &r.opens, &r.callouts, u32::MAX));
-            agree(name, |s| {
-                let mut usable = vec![0; n];
-                ((s.usable_slots)(n, &r.opens, &r.callouts, &mut usable), usable)
-            });
-            // The walk goes on for a while, to compare more plans.
-            let mut plan: Plan = first.plan;
-            for _ in 0..100 {
-                let next = agree(name, |s| (s.next_plan)(n, &r.opens, &r.callouts, plan));
-                if next.code != 0 {
-                    break;
-                }
-                plan = next.plan;
-            }
-        }
-        let some = first.iter().filter(|a| a.code == 0).count();
+    heading(&format!("Plans, n = {n}"), "family", &["first", "next", "usable", "fewest"]);
+    for family in families {
+        let first = compare_plans(n, &family);
+        let Family { name, rotas } = family;
         let count = rotas.len();
         print!("| {name} |");
         let t = times(report.rounds, count, |s| {
@@ -88,14 +65,14 @@ fn plans(report: &mut Report, n: usize, families: Vec<Family>) {
                 black_box((s.first_plan)(black_box(n), &r.opens, &r.callouts));
             }
         });
-        report.cell(format!("{name}, first"), Some(6.0), t);
-        if some == count {
+        report.cell("first", n, name, t);
+        if first.iter().all(|a| a.code == 0) {
             let t = times(report.rounds, count, |s| {
                 for (r, first) in rotas.iter().zip(&first) {
                     black_box((s.next_plan)(black_box(n), &r.opens, &r.callouts, first.plan));
                 }
             });
-            report.cell(format!("{name}, next"), Some(4.0), t);
+            report.cell("next", n, name, t);
         } else {
             print!(" | | |");
         }
@@ -105,20 +82,19 @@ fn plans(report: &mut Report, n: usize, families: Vec<Family>) {
                 black_box((s.usable_slots)(black_box(n), &r.opens, &r.callouts, black_box(&mut usable)));
             }
         });
-        report.cell(format!("{name}, usable"), Some(6.0), t);
+        report.cell("usable", n, name, t);
         let t = times(report.rounds, count, |s| {
             for r in &rotas {
                 black_box((s.fewest_callouts)(black_box(n), &r.opens, &r.callouts, u32::MAX));
             }
         });
-        report.cell(format!("{name}, fewest"), Some(20.0), t);
+        report.cell("fewest", n, name, t);
         println!();
     }
 }
 
 fn counts(report: &mut Report, n: usize) {
-    println!("\nCounting, n = {n}, µs a call");
-    heading("family", &["count", "grade", "price"]);
+    heading(&format!("Counting, n = {n}"), "family", &["count", "grade", "price"]);
     let mut tally = vec![0; 1 << n];
     for Family { name, rotas } in counted(n) {
         let r = &rotas[0];
@@ -132,23 +108,28 @@ fn counts(report: &mut Report, n: usize) {
         let t = times(report.rounds, 1, |s| {
             black_box((s.count_plans)(black_box(n), &r.opens, &r.callouts, black_box(&mut tally)));
         });
-        report.cell(format!("{name}, count"), None, t);
+        report.cell("count", n, name, t);
         let t = times(report.rounds, 1, |s| {
             black_box((s.grade)(black_box(n), &r.opens, &r.callouts, black_box(&mut tally)));
         });
-        report.cell(format!("{name}, grade"), None, t);
+        report.cell("grade", n, name, t);
         let t = times(report.rounds, 1, |s| {
             black_box((s.monthly_price)(black_box(n), &r.opens, &r.callouts, VEHICLES, black_box(&mut tally)));
         });
-        report.cell(format!("{name}, price"), None, t);
+        report.cell("price", n, name, t);
         println!();
     }
 }
 
 /// How the times grow with n.
 fn growth(report: &mut Report) {
-    println!("\nGrowth of the first plan, µs a call");
-    heading("n", &["dense", "random 6 and a plan", "triangle up"]);
+    growth_of_first(report);
+    growth_of_fewest(report);
+    growth_of_count(report);
+}
+
+fn growth_of_first(report: &mut Report) {
+    heading("Growth of the first plan", "n", &["dense", "random 6 and a plan", "triangle up"]);
     for n in [8, 16, 32, 64] {
         print!("| {n} |");
         for Family { name, rotas } in counted(n) {
@@ -160,12 +141,15 @@ fn growth(report: &mut Report) {
                     black_box((s.first_plan)(black_box(n), &r.opens, &r.callouts));
                 }
             });
-            report.cell(format!("{name}, first, n = {n}"), Some(6.0), t);
+            report.cell("first", n, name, t);
         }
         println!();
     }
-    println!("\nGrowth of the fewest callouts where the search has n rounds, µs a call");
-    heading("n", &["triangle up, callouts on the diagonal alone"]);
+}
+
+fn growth_of_fewest(report: &mut Report) {
+    let diagonal = "triangle up, callouts on the diagonal alone";
+    heading("Growth of the fewest callouts where the search has n rounds", "n", &[diagonal]);
     for n in [8, 16, 32, 64] {
         let Rota { opens, callouts } = hardest(n);
         agree("hardest", |s| (s.fewest_callouts)(n, &opens, &callouts, u32::MAX));
@@ -173,11 +157,13 @@ fn growth(report: &mut Report) {
         let t = times(report.rounds, 1, |s| {
             black_box((s.fewest_callouts)(black_box(n), &opens, &callouts, u32::MAX));
         });
-        report.cell(format!("triangle up, callouts on the diagonal alone, fewest, n = {n}"), None, t);
+        report.cell("fewest", n, diagonal, t);
         println!();
     }
-    println!("\nGrowth of the count, µs a call");
-    heading("n", &["dense", "random 6 and a plan", "triangle up"]);
+}
+
+fn growth_of_count(report: &mut Report) {
+    heading("Growth of the count", "n", &["dense", "random 6 and a plan", "triangle up"]);
     for n in [8, 12, 16, 20] {
         print!("| {n} |");
         let mut tally = vec![0; 1 << n];
@@ -187,7 +173,7 @@ fn growth(report: &mut Report) {
             let t = times(report.rounds, 1, |s| {
                 black_box((s.count_plans)(black_box(n), &r.opens, &r.callouts, black_box(&mut tally)));
             });
-            report.cell(format!("{name}, count, n = {n}"), None, t);
+            report.cell("count", n, name, t);
         }
         println!();
     }
@@ -195,8 +181,8 @@ fn growth(report: &mut Report) {
 
 /// The lister from a fresh one and from the first plan, and the calls on files.
 fn desk(report: &mut Report) {
-    println!("\nThe lister and the plan calls on files, random 6 and a plan, µs a call");
-    heading("n", &["list, fresh", "list, started", "file first", "file next", "file fewest"]);
+    let columns = ["list, fresh", "list, started", "file first", "file next", "file fewest"];
+    heading(&format!("The lister and the plan calls on files, {HIDDEN}"), "n", &columns);
     for n in [20, 64] {
         let Rota { opens, callouts } = families::hidden(n, 6, &mut random::Random::new(1));
         let mut file = vec![0; 1536];
@@ -221,22 +207,21 @@ fn desk(report: &mut Report) {
             let t = times(report.rounds, 1, |s| {
                 black_box(list(s, black_box(lister)));
             });
-            report.cell(format!("{what}, n = {n}"), None, t);
+            report.cell(what, n, HIDDEN, t);
         }
         for (what, call) in calls {
             agree(what, |s| on_file(call, s, started.plan));
             let t = times(report.rounds, 1, |s| {
                 black_box(on_file(call, s, black_box(started.plan)));
             });
-            report.cell(format!("{what}, n = {n}"), None, t);
+            report.cell(what, n, HIDDEN, t);
         }
         println!();
     }
 }
 
 fn files(report: &mut Report) {
-    println!("\nFiles of random 6 and a plan, µs a call");
-    heading("n", &["write", "read"]);
+    heading(&format!("Files of {HIDDEN}"), "n", &["write", "read"]);
     for n in [20, 31, 62, 64] {
         let Rota { opens, callouts } = families::hidden(n, 6, &mut random::Random::new(1));
         let written = agree("write", |s| {
@@ -254,37 +239,43 @@ fn files(report: &mut Report) {
         let t = times(report.rounds, 1, |s| {
             black_box((s.write_file)(black_box(n), &opens, &callouts, black_box(&mut out)));
         });
-        report.cell(format!("write, n = {n}"), None, t);
+        report.cell("write", n, HIDDEN, t);
         let (mut o, mut c) = (vec![0; 64], vec![0; 64]);
         let t = times(report.rounds, 1, |s| {
             black_box((s.read_file)(black_box(file), black_box(&mut o), black_box(&mut c)));
         });
-        report.cell(format!("read, n = {n}"), None, t);
+        report.cell("read", n, HIDDEN, t);
         println!();
     }
 }
 
-/// The machine, and how many programs wanted to run in the last minute.
-fn machine() {
-    let read = |path| std::fs::read_to_string(path).unwrap_or_default();
-    let info = read("/proc/cpuinfo");
-    let name = info.lines().find_map(|line| line.strip_prefix("model name")).unwrap_or("unknown");
-    let name = name.trim_start_matches(|c: char| c.is_whitespace() || c == ':');
-    let load = read("/proc/loadavg");
-    let load = load.split(' ').next().unwrap_or("unknown");
-    println!("Machine: {}, {name}; load {load}", std::env::consts::ARCH);
+/// Writes the rotas that the programs in C read: a line for each family with n, how many there are and the name, then a line for each
+/// rota with its open words and its callout words.
+fn write_rotas() {
+    for n in [12, 16, 20, 64] {
+        for Family { name, rotas } in families::lent(n) {
+            println!("{n} {} {name}", rotas.len());
+            for Rota { opens, callouts } in rotas {
+                let words: Vec<String> = opens.iter().chain(&callouts).map(|word| format!("{word:x}")).collect();
+                println!("{}", words.join(" "));
+            }
+        }
+    }
 }
 
 fn main() {
-    let rounds = std::env::args().nth(1).map_or(1500, |text| text.parse().expect("the rounds are a number"));
-    let mut report = Report { rounds, missed: Vec::new() };
-    machine();
+    let argument = std::env::args().nth(1);
+    if argument.as_deref() == Some("rotas") {
+        return write_rotas();
+    }
+    let rounds = argument.map_or(1500, |text| text.parse().expect("the rounds are a number"));
+    let mut report = Report::new(rounds);
+    machine(rounds);
     plans(&mut report, 64, families(64));
     plans(&mut report, 20, counted(20));
     counts(&mut report, 20);
     desk(&mut report);
     growth(&mut report);
     files(&mut report);
-    println!("\nTargets missed: {}", report.missed.len());
-    report.missed.iter().for_each(|line| println!("- {line}"));
+    report.limits();
 }

@@ -1,0 +1,111 @@
+"""Writes what was measured into docs/BENCHMARK.md, between its markers.
+
+    report.py TIMES PEERS STACK DOCUMENT
+
+The first three are the outputs of the three programs. A section of the document stands between `<!-- begin NAME -->` and
+`<!-- end NAME -->`.
+"""
+
+import re
+import sys
+
+STACK_LIMIT = 16 * 1024
+
+
+def parts(path):
+    """The text before the first heading, and the text below each heading."""
+    with open(path, encoding="utf-8") as file:
+        pieces = re.split(r"^### (.*)\n", file.read(), flags=re.MULTILINE)
+    return pieces[0].strip(), {pieces[k]: pieces[k + 1].strip() for k in range(1, len(pieces), 2)}
+
+
+def rows(text):
+    """The cells of each row of a table, without its two lines of heading."""
+    lines = [line for line in text.splitlines() if line.startswith("|")]
+    return [[cell.strip() for cell in line.strip("|").split("|")] for line in lines[2:]]
+
+
+def numbers(table, column):
+    """The numbers of a column; empty cells are left out."""
+    return [float(row[column]) for row in table if row[column]]
+
+
+def span(values, form="{:.2f}"):
+    least, most = form.format(min(values)), form.format(max(values))
+    return least if least == most else f"{least} to {most}"
+
+
+def calls(table):
+    """The times of the four calls for plans, in a table that has library, Rust and ratio of each."""
+    names = ["the first plan takes", "the next", "the usable slots", "the fewest callouts"]
+    return ", ".join(f"{name} {span(numbers(table, 1 + 3 * k))}" for k, name in enumerate(names)) + " µs"
+
+
+def ratios(table, count):
+    return [ratio for k in range(count) for ratio in numbers(table, 3 + 3 * k)]
+
+
+def factors(table, columns):
+    """How many times as long as the library the fastest of these columns takes, in each row."""
+    return [min(float(row[column]) for column in columns) / float(row[2]) for row in table]
+
+
+def whole(values):
+    return span(values, "{:.0f}")
+
+
+def result(times, peers, stack):
+    plans20, plans64 = rows(times["Plans, n = 20, µs a call"]), rows(times["Plans, n = 64, µs a call"])
+    counting = rows(times["Counting, n = 20, µs a call"])
+    plan, fewest = rows(peers["A plan, µs a call"]), rows(peers["The fewest callouts, µs a call"])
+    count = [row for row in rows(peers["The number of plans, µs a call"]) if row[0] == "20"]
+    most = max(int(row[2]) for row in stack)
+    if most >= STACK_LIMIT:
+        sys.exit(f"report: a call takes {most} bytes of stack")
+    counts = span([value / 1000 for value in numbers(counting, 1)], "{:.0f}")
+    return "\n".join([
+        f"- At 20 items {calls(plans20)}; the count {counts} ms.",
+        f"- At 64 items {calls(plans64)}.",
+        f"- The same algorithms in Rust: the library takes {span(ratios(plans64, 4))} times their time at 64 items, "
+        f"{span(ratios(plans20, 4))} at 20, and {span(ratios(counting, 3))} to count.",
+        "- What a user would call instead answers less. The faster of igraph and LEMON takes "
+        f"{whole(factors(plan, [3, 5]))} times as long for a plan and\n  {whole(factors(fewest, [3, 5, 7]))} times for the fewest callouts; "
+        f"with a graph that was built before, {whole(factors(plan, [4, 6]))} and {whole(factors(fewest, [4, 6, 8]))} times. PARI takes\n  "
+        f"{whole(factors(count, [4]))} times as long to count at 20 items.",
+        f"- No call took more than {most:,} bytes of stack.",
+    ])
+
+
+def replace(document, name, text):
+    begin, end = f"<!-- begin {name} -->\n", f"<!-- end {name} -->\n"
+    if document.count(begin) != 1 or document.count(end) != 1:
+        sys.exit(f"report: the document's markers of {name} are not there once")
+    before, rest = document.split(begin)
+    return before + begin + text + "\n" + end + rest.split(end)[1]
+
+
+def tables(headed):
+    return "\n\n".join(f"### {heading}\n\n{text}" for heading, text in headed.items())
+
+
+def main():
+    times_path, peers_path, stack_path, path = sys.argv[1:]
+    machine, times = parts(times_path)
+    versions, peers = parts(peers_path)
+    stack = parts(stack_path)[1]["Stack, bytes"]
+    limits = times.pop("Limits")
+    with open(path, encoding="utf-8") as file:
+        document = file.read()
+    document = replace(document, "result", result(times, peers, rows(stack)))
+    document = replace(document, "machine", f"{machine}.\n{versions}.")
+    document = replace(document, "limits", limits)
+    document = replace(document, "stack", stack)
+    document = replace(document, "peers", tables(peers))
+    document = replace(document, "times", tables(times))
+    with open(path, "w", encoding="utf-8") as file:
+        file.write(document)
+    print(f"report: {path} is written")
+
+
+if __name__ == "__main__":
+    main()
