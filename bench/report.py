@@ -68,10 +68,9 @@ def result(times, peers, stack):
         f"- At 64 items {calls(plans64)}.",
         f"- The same algorithms in Rust: the library takes {span(ratios(plans64, 4))} times their time at 64 items, "
         f"{span(ratios(plans20, 4))} at 20, and {span(ratios(counting, 3))} to count.",
-        "- What a user would call instead answers less. The faster of igraph and LEMON takes "
-        f"{whole(factors(plan, [3, 5]))} times as long for a plan and\n  {whole(factors(fewest, [3, 5, 7]))} times for the fewest callouts; "
-        f"with a graph that was built before, {whole(factors(plan, [4, 6]))} and {whole(factors(fewest, [4, 6, 8]))} times. PARI takes\n  "
-        f"{whole(factors(count, [4]))} times as long to count at 20 items.",
+        f"- Instead of a plan igraph or LEMON, which answer less, take {whole(factors(plan, [3, 5]))} times as long "
+        f"({whole(factors(plan, [4, 6]))} with a graph built before); for the fewest callouts {whole(factors(fewest, [3, 5, 7]))} "
+        f"({whole(factors(fewest, [4, 6, 8]))}); PARI for the count {whole(factors(count, [4]))}.",
         f"- No call took more than {most:,} bytes of stack.",
     ])
 
