@@ -1,4 +1,4 @@
-//! The least perfect matching (document 01's first plan): a complete table is made least item by item, with the slots of the items
+//! The least perfect matching (the first plan of docs/RULES.md): a complete table is made least item by item, with the slots of the items
 //! before left to them. The tables are those of `augment`.
 
 use super::augment::Found;

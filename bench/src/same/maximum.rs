@@ -1,4 +1,4 @@
-//! Maximum matchings, and the deficient set that shows that no matching is larger (document 01's shortage). The tables are those
+//! Maximum matchings, and the deficient set that shows that no matching is larger (the shortage of docs/RULES.md). The tables are those
 //! of `augment`.
 
 use super::{answers, augment, words};

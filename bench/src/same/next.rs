@@ -1,4 +1,4 @@
-//! The next perfect matching after a given one (document 01's next plan). The tables are those of `augment`.
+//! The next perfect matching after a given one (the next plan of docs/RULES.md). The tables are those of `augment`.
 
 use super::augment::Found;
 use super::{answers, least, plan, words};

@@ -1,4 +1,4 @@
-//! The subset counts of document 01's tally, and the number of complete plans, which is the permanent of the table.
+//! The subset counts (the tally of docs/RULES.md), and the number of complete plans, which is the permanent of the table.
 
 use super::words;
 

@@ -1,7 +1,7 @@
 -- Demand 1: "So that a planner may hand over any rota, file or plan, every public call ends, does nothing undefined and either does its
 -- work or refuses by the numbers of document 01, in their order. A refusal returns what that table says and changes no lent buffer
 -- and no lister." That a call ends and does nothing undefined is what the checker proves of every function; the rest stands here.
--- Assumes nothing.
+-- The numbers and the order of document 01 are those of docs/RULES.md. Assumes nothing.
 use mathlib.Core.Path.{_≡_}
 use mathlib.Core.Logic.{_≢_}
 use mathlib.Core.Bool.{cond}

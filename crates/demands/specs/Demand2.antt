@@ -2,7 +2,7 @@
 -- document 01's definitions, which are those of perfect matchings and of the permanent of a table of zeros and ones. A call that
 -- tests 9 and gets so far gives it exactly if no complete plan exists. Writing a rota file and reading it restores the rota; reading
 -- an accepted file and writing it restores every byte." The numbers of refusals, 9 among them, are in demand 1: a call over an accepted
--- rota that gives 0 did its work. Assumes nothing.
+-- rota that gives 0 did its work. Document 01's definitions are the rules of docs/RULES.md. Assumes nothing.
 use mathlib.Core.Path.{_≡_}
 use mathlib.Core.Logic.{_⊎_, _↔_}
 use mathlib.Core.List.{List, _++_}

@@ -1,4 +1,4 @@
--- The rows of document 01's table "When a call says no", each as its number and when it is given. Assumes nothing.
+-- The refusal numbers of docs/RULES.md, each with when it is given. Assumes nothing.
 use mathlib.Core.Path.{_≡_}
 use mathlib.Core.Logic.{_≢_, _⊎_}
 use mathlib.Core.Bool.{true, false}

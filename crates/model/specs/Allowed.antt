@@ -1,4 +1,4 @@
--- The allowed slots (document 01's usable table). Assumes nothing.
+-- The allowed slots (the usable table of docs/RULES.md). Assumes nothing.
 use mathlib.Core.List.{List, map}
 use Prim.Native.Nat.{ℕ, _^_}
 use lib.ListN.{length, getD}
@@ -11,7 +11,7 @@ unfoldable pub allowedWord : ℕ → List ℕ → ℕ → ℕ
 unfolding union plans
 allowedWord m opens i = union (map (λ p. 2 ^ getD p i 0) (plans m opens))
 
--- document 01's usable table: such a word for each item
+-- the usable table of docs/RULES.md: such a word for each item
 unfoldable pub allowedWords : ℕ → List ℕ → List ℕ
 unfolding allowedWord below
 allowedWords m opens = map (allowedWord m opens) (below (length opens))

@@ -1,4 +1,4 @@
--- The number of complete plans, the permanent of the table, and the subset counts (document 01's tally). Assumes nothing.
+-- The number of complete plans, the permanent of the table, and the subset counts (the tally of docs/RULES.md). Assumes nothing.
 use mathlib.Core.List.{List, [], _∷_, map}
 use Prim.Native.Nat.{ℕ, _*_, _^_}
 use lib.Count.{ones}
@@ -8,7 +8,7 @@ use Rattle.model.specs.Sets.{members}
 use Rattle.words.specs.Sum.{below, total}
 use Rattle.model.specs.Plans.{arrangements, matchings, plans}
 
--- document 01's count
+-- the count of docs/RULES.md
 unfoldable pub count : ℕ → List ℕ → ℕ
 unfolding plans
 count m opens = length (plans m opens)

@@ -1,4 +1,4 @@
--- What the call for the count answers, and the tally that it leaves. Document 01's tally are the subset counts. Assumes nothing.
+-- What the call for the count answers, and the tally that it leaves. The tally of docs/RULES.md are the subset counts. Assumes nothing.
 use mathlib.Core.List.{List}
 use Prim.Native.Nat.{ℕ}
 use lib.ListN.{length}

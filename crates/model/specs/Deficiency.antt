@@ -1,4 +1,4 @@
--- The deficiency (document 01's shortage) and the deficient set. A set of items is a word below 2 to the power n.
+-- The deficiency (the shortage of docs/RULES.md) and the deficient set. A set of items is a word below 2 to the power n.
 -- Assumes nothing.
 use mathlib.Core.List.{List, map}
 use Prim.Native.Nat.{ℕ, _-_, _^_}
@@ -14,7 +14,7 @@ unfoldable pub neighbours : List ℕ → ℕ → ℕ
 unfolding union members
 neighbours opens set = union (map (λ i. getD opens i 0) (members (length opens) set))
 
--- document 01's "short by": the set's size less the number of those slots, 0 where they are more
+-- "short by" of docs/RULES.md: the set's size less the number of those slots, 0 where they are more
 unfoldable pub shortBy : List ℕ → ℕ → ℕ
 unfolding ones neighbours
 shortBy opens set = ones set - ones (neighbours opens set)

@@ -1,4 +1,4 @@
--- Document 01's lister: what one call answers, and the lister that it leaves. The field calls it an enumerator. Assumes nothing.
+-- The lister of docs/RULES.md: what one call answers, and the lister that it leaves. The field calls it an enumerator. Assumes nothing.
 use mathlib.Core.Bool.{true, cond}
 use mathlib.Core.List.{List}
 use Prim.Native.Nat.{ℕ}

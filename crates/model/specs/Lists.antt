@@ -42,7 +42,7 @@ same [] (y ∷ m) = false
 same (x ∷ l) [] = false
 same (x ∷ l) (y ∷ m) = eqb x y && same l m
 
--- Document 01's dictionary order: the first place at which two lists differ decides
+-- The dictionary order of docs/RULES.md: the first place at which two lists differ decides
 unfoldable pub before : List ℕ → List ℕ → Bool
 before [] [] = false
 before [] (y ∷ m) = true

@@ -29,7 +29,7 @@ short by set = record { code = 9; shortage = by; items = set; callouts = 0; plan
 abbrev pub overCap : ℕ → PlanAnswer
 overCap number = record { code = 11; shortage = 0; items = 0; callouts = number; plan = record { slots = blank } }
 
--- no complete plan exists: document 01's shortage is the deficiency, its item set the deficient set
+-- no complete plan exists: the shortage of docs/RULES.md is the deficiency, its item set the deficient set
 unfoldable pub noPlan : List ℕ → PlanAnswer
 unfolding deficiency deficientSet
 noPlan opens = short (deficiency opens) (deficientSet opens)

@@ -1,4 +1,4 @@
--- What the call for the usable table answers and writes. Document 01's usable slots are the allowed ones. Assumes nothing.
+-- What the call for the usable table answers and writes. The usable slots of docs/RULES.md are the allowed ones. Assumes nothing.
 use mathlib.Core.List.{List}
 use Prim.Native.Nat.{ℕ}
 use lib.ListN.{length}

@@ -17,7 +17,7 @@ pub struct PlanAnswer {
     pub plan: Plan,
 }
 
-// Document 01's lister.
+// The lister of docs/RULES.md.
 #[repr(C)]
 pub struct Lister {
     pub started: bool,
