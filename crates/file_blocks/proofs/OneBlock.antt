@@ -9,13 +9,19 @@ use Rattle.model.specs.declared.Edition.{Edition}
 use Rattle.model.specs.Lists.{any}
 use Rattle.model.specs.File.{cut, blocksIn, itemsIn, slotsIn, checkWrong, blockLaid, blocksLaid}
 use Rattle.model.proofs.Files.{blocks-count, cut-drop}
-use Rattle.file_blocks.specs.Blocks.{checkedOf, checkedAt}
+use Rattle.file_blocks.specs.Blocks.{checkedOf, checkedAt, joined}
 use Rattle.file_blocks.specs.declared.reader.Checked.{Checked}
 
+-- no block passes
+pub joined-none : (c : Checked) → c ≡ joined c (record { wrong = false; laid = true })
+joined-none c = ap₂ (λ x y. record { wrong = x; laid = y }) (sym (or-false (c .wrong))) (sym (and-true (c .laid)))
+
 module _ (e : Edition) (file : List ℕ) (b : ℕ) where
-  pub checked-none : length file / 512 ≤ b → _≡_ {A = Checked} (record { wrong = false; laid = true }) (checkedAt e file b)
+  pub checked-none : length file / 512 ≤ b → (c : Checked) → c ≡ joined c (checkedAt e file b)
   unfolding checkedAt any blocksLaid
-  checked-none h = sym (ap (λ l. checkedOf e file b (take 1 l)) (drop-of-length-le (blocksIn file) {i = b} (omega (arith, blocks-count file))))
+  checked-none h c =
+      let none = drop-of-length-le (blocksIn file) {i = b} (omega (arith, blocks-count file)) in
+      joined-none c ∙ sym (ap (λ l. joined c (checkedOf e file b (take 1 l))) none)
 
   next-block : b < length file / 512 → take 1 (drop b (blocksIn file)) ≡ take 512 (drop (512 * b) file) ∷ []
   unfolding blocksIn cut

@@ -1,4 +1,5 @@
 -- What the tests of blocks find: of the next block, and of all. Assumes nothing.
+use mathlib.Core.Bool.{_&&_, _||_}
 use mathlib.Core.List.{List}
 use Prim.Native.Nat.{ℕ}
 use lib.ListN.{take, drop}
@@ -20,3 +21,7 @@ checkedAt e file b = checkedOf e file b (take 1 (drop b (blocksIn file)))
 unfoldable pub allChecked : Edition → List ℕ → Checked
 unfolding checkedOf
 allChecked e file = checkedOf e file 0 (blocksIn file)
+
+-- of some blocks and of others
+abbrev pub joined : Checked → Checked → Checked
+joined a b = record { wrong = a .wrong || b .wrong; laid = a .laid && b .laid }
