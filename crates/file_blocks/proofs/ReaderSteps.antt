@@ -18,7 +18,7 @@ use contract.Lifetimes.{Lfts, Shares}
 use contract.Monad.{fact}
 use types.Kit.{Given, Item, Post, post, Goal, prop, runs, lands, settles, frees, Soaks, Seq, Step, step, mean, nth, ‵, raw, _⊛_, some as some-item, given, later}
 use types.Kit.{_$_, move, drop, use1, split, pick, learn, fsplit, fjoin, await}
-use types.Run.{Opd, Opds, look, forget, stop, from, load, and-then, first, skips, jumps, branches, free1}
+use types.Run.{Finds, Opd, Opds, look, forget, stop, from, load, and-then, first, skips, jumps, branches, free1}
 use denote.RattleType.{RattleType}
 use denote.Laws.{Is, shows}
 use denote.Plain.{uint-makes}
@@ -85,12 +85,12 @@ pub edition-typed : {M : Type 1} (𝓤 : URA M) (H : Heap 𝓤) (A : Atoms 𝓤)
     → Holds (hasTy E′.mir (edition-val e)) × WT (edition-val e)
 edition-typed 𝓤 H A W e is = EL.lawful E.the-type E′.the-laws 𝓤 H A W tt .typed e (edition-val e ∷ []) is .0
 
--- what is had on entry is what a function without `requires` asks, and what one with a fact for it asks
-pub asked : {M : Type 1} (𝓤 : URA M) (P : SProp 𝓤) → ent 𝓤 P (sep 𝓤 P (emp 𝓤))
-asked 𝓤 P = via 𝓤 (sep 𝓤 (emp 𝓤) P) (emp∗ 𝓤 P) (comm∗ 𝓤 (emp 𝓤) P)
+-- what is had on entry is what a function without `requires` asks, and beside a fact what one with that `requires` asks
+pub unasked : {M : Type 1} (𝓤 : URA M) (P : SProp 𝓤) → ent 𝓤 P (sep 𝓤 P (emp 𝓤))
+unasked 𝓤 P = via 𝓤 (sep 𝓤 (emp 𝓤) P) (emp∗ 𝓤 P) (comm∗ 𝓤 (emp 𝓤) P)
 
-pub asked-fact : {M : Type 1} (𝓤 : URA M) (P : SProp 𝓤) (φ : Type 0) → φ → ent 𝓤 P (sep 𝓤 P (fact 𝓤 φ))
-asked-fact 𝓤 P φ x = via 𝓤 (sep 𝓤 P (emp 𝓤)) (asked 𝓤 P) (monoR 𝓤 P (guardI 𝓤 φ (emp 𝓤) x))
+pub asked : {M : Type 1} (𝓤 : URA M) (P : SProp 𝓤) (φ : Type 0) → φ → ent 𝓤 P (sep 𝓤 P (fact 𝓤 φ))
+asked 𝓤 P φ x = via 𝓤 (sep 𝓤 P (emp 𝓤)) (unasked 𝓤 P) (monoR 𝓤 P (guardI 𝓤 φ (emp 𝓤) x))
 
 module _ {M : Type 1} {𝓤 : URA M} {H : Heap 𝓤} {A : Atoms 𝓤} {K : Type 0} {W : Given 𝓤 H A} {Γ : List (Item 𝓤)} {G : Goal 𝓤 H} where
   pub checked-own : K → (c : Checked) → Step K W (‵ (S.the-row .own c (S′.lowered c ∷ [])) ∷ Γ) G Γ G
@@ -149,12 +149,19 @@ module _ {M : Type 1} {𝓤 : URA M} {H : Heap 𝓤} {A : Atoms 𝓤} {K : Type 
       → Seq K W Γ (runs C Λ E (seq (cond c skip (exit n)) b) q)
   tests t o goes leaves = first t $ branches t o (λ h. skips t $ record { prf = goes h .prf }) (λ h. jumps t $ leaves h)
 
--- the first operand is a whole local, which is entry n of the context
-module _ {M : Type 1} {𝓤 : URA M} {H : Heap 𝓤} {A : Atoms 𝓤} {K : Type 0} {W : Given 𝓤 H A} {Γ : List (Item 𝓤)} {ls : Env 𝓤 H} where
-  pub local : K → (n : ℕ) {i : ℕ} {q : Share} {v : Val} {xs : List Operand} {vs : List Val}
-      → nth 𝓤 H A n Γ ≡ ‵ (fat q (spotOf 𝓤 H ls i .0) (spotOf 𝓤 H ls i .1) (spotOf 𝓤 H ls i .2) v)
-      → Opds K W Γ ls xs vs → Opds K W Γ ls (copy (place i []) ∷ xs) (v ∷ vs)
-  local t n e os = and-then t (load t (from t (stop t)) (look t n e)) os
+-- whole locals: one is read, which is entry n of the context; one is the first operand; one is written
+module _ {M : Type 1} {𝓤 : URA M} {H : Heap 𝓤} {A : Atoms 𝓤} {K : Type 0} {W : Given 𝓤 H A} {Γ : List (Item 𝓤)} {ls : Env 𝓤 H} {i : ℕ} where
+  module _ {q : Share} {v : Val} where
+    pub var : K → (n : ℕ) → nth 𝓤 H A n Γ ≡ ‵ (fat q (spotOf 𝓤 H ls i .0) (spotOf 𝓤 H ls i .1) (spotOf 𝓤 H ls i .2) v) → Opd K W Γ ls (copy (place i [])) v
+    var t n e = load t (from t (stop t)) (look t n e)
+
+    pub local : K → (n : ℕ) {xs : List Operand} {vs : List Val}
+        → nth 𝓤 H A n Γ ≡ ‵ (fat q (spotOf 𝓤 H ls i .0) (spotOf 𝓤 H ls i .1) (spotOf 𝓤 H ls i .2) v)
+        → Opds K W Γ ls xs vs → Opds K W Γ ls (copy (place i []) ∷ xs) (v ∷ vs)
+    local t n e os = and-then t (var t n e) os
+
+  pub here : K → Finds K W Γ ls (place i []) (spotOf 𝓤 H ls i)
+  here t = from t (stop t)
 
 -- after a call whose `ensures`, the fact φ r of its result r, says that the result is x, with the machine value w: what it owns is not needed, and the
 -- tokens are left. What is said of last values is dropped, since no parameter is a `&mut`

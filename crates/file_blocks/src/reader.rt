@@ -1,6 +1,7 @@
 // The block reader keeps the lent file and the next block's number. Its functions are thin: `check_at` does the work.
 ghost use mathlib.Core.Path.{_≡_};
-ghost use Prim.Native.Nat.{_+_, _<_, _^_};
+ghost use Prim.Native.Nat.{_+_, _/_, _<_, _^_};
+ghost use lib.ListN.{length};
 ghost use Rattle.file_blocks.specs.Blocks.{joined, checkedAt, allChecked};
 use crate::checks;
 use file_layout::editions;
@@ -17,13 +18,11 @@ pub struct Checked {
     pub laid: bool,
 }
 
-// The tests of block b, joined with what was found before; a block that is not there passes.
+// The tests of block b, joined with what was found before.
 pub fn check_at(edition: Edition, file: &[u8], b: usize, before: Checked) -> Checked
+    requires { ⌜ b < length (now file) / 512 ⌝ }
     ensures { λ r. ⌜ r ≡ joined before (checkedAt edition (now (file .entry)) b) ⌝ }
 {
-    if file.len() / 512 <= b {
-        return before;
-    }
     let m = editions::slots_in(edition, file);
     let at = 512 * b;
     let block = &file[at..at + 512];
@@ -44,6 +43,7 @@ pub fn start<'a>(file: &'a [u8]) -> BlockReader<'a>
 
 // The tests of the reader's next block, joined with what was found before.
 pub fn check<'a>(edition: Edition, r: BlockReader<'a>, before: Checked) -> Checked
+    requires { ⌜ r .next < length (now (r .file)) / 512 ⌝ }
     ensures { λ c. ⌜ c ≡ joined before (checkedAt edition (now (r .entry .file)) (r .entry .next)) ⌝ }
 {
     check_at(edition, r.file, r.next, before)

@@ -29,7 +29,7 @@ use denote.Triple.Table.{entered}
 use denote.Triple.Walked.{says, needs, Stays, stay-none, walkOf, goes-none, ends-at, walked, walk-meets}
 use denote.Exit.{yes}
 use Rattle.file_blocks.specs.declared.reader.BlockReader.{BlockReader}
-use Rattle.file_blocks.proofs.ReaderSteps.{token, D, L, B, reader-at, beside, file-twice, reader-opens, reader-shuts, frees-full, local}
+use Rattle.file_blocks.proofs.ReaderSteps.{token, D, L, B, reader-at, beside, file-twice, reader-opens, reader-shuts, frees-full, local, var, here}
 use Rattle.file_blocks.proofs.reader.BlockReader.Laws as T′
 use Rattle.file_blocks.proofs.reader.advanced.Key.{name as #reader·advanced}
 use Rattle.file_blocks.proofs.reader.advanced as f
@@ -75,10 +75,10 @@ module _ {M : Type 1} (𝓤 : URA M) (H : Heap 𝓤) (A : Atoms 𝓤) (W : Given
         alloc1 ! (λ l₀. alloc1 ! (λ l₁. alloc1 ! (λ l₂. alloc1 ! (λ l₃. alloc1 ! (λ l₄. alloc0 ! $
         move ! (8 ∷ 9 ∷ 6 ∷ 7 ∷ 4 ∷ 5 ∷ 2 ∷ 3 ∷ []) $ params1 ! $ pass1 ! (init ! 2 refl wt) $ pass0 ! $
         -- [room for _0; …; _1; …; room for _2; …; room for _3; …; room for _4; …; what is had on entry]
-        assigns ! (of-opd ! (load ! (from ! (fld ! refl (stop !))) (look-in ! 2 (sub ! 0 refl (whole !))))) (from ! (stop !)) (init ! 4 refl (tt, wt .1 .0)) $
-        assigns ! (of-opd ! (load ! (from ! (fld ! refl (stop !))) (look-in ! 2 (sub ! 1 refl (whole !))))) (from ! (stop !)) (init ! 6 refl (tt, wt .1 .1 .0)) $
-        assigns ! (bin ! (load ! (from ! (stop !)) (look ! 6 refl)) (lit ! tt) (record { fits = ok })) (from ! (stop !)) (init ! 8 refl (tt, record { fits = ok })) $
-        assigns ! (agg ! (local ! 4 refl (local ! 8 refl (no-more !)))) (from ! (stop !)) (init ! 0 refl (tt, (wt .1 .0, (record { fits = ok }, tt)))) $
+        assigns ! (of-opd ! (load ! (from ! (fld ! refl (stop !))) (look-in ! 2 (sub ! 0 refl (whole !))))) (here !) (init ! 4 refl (tt, wt .1 .0)) $
+        assigns ! (of-opd ! (load ! (from ! (fld ! refl (stop !))) (look-in ! 2 (sub ! 1 refl (whole !))))) (here !) (init ! 6 refl (tt, wt .1 .1 .0)) $
+        assigns ! (bin ! (var ! 6 refl) (lit ! tt) (record { fits = ok })) (here !) (init ! 8 refl (tt, record { fits = ok })) $
+        assigns ! (agg ! (local ! 4 refl (local ! 8 refl (no-more !)))) (here !) (init ! 0 refl (tt, (wt .1 .0, (record { fits = ok }, tt)))) $
         returns ! (look ! 0 refl) $ frees-full ! $ frees-full ! $ frees-full ! $ frees-full ! $ frees-full ! $ free0 ! $ by ! (exits (wt .1 .1 .0 .fits)))))))
 
 module _ {M : Type 1} (𝓤 : URA M) (H : Heap 𝓤) (A : Atoms 𝓤) (W : Given 𝓤 H A) (mem : Memory → SProp 𝓤) (run : Routine → Fun 𝓤) (𝓣 : Tables 𝓤 H) where

@@ -17,7 +17,7 @@ use base.Logic.{SProp, ent, emp, via, fst∗, id⊢}
 use base.Fml.{Lft, Share}
 use prog.Memory.{Memory}
 use prog.Routine.{Routine}
-use prog.Wp.{Heap, Out, Env, afterSeq, afterBlock, afterTurn, Calls, Loops, Wp, atReturn, WpFn, Tables}
+use prog.Wp.{Heap, Out, Env, afterSeq, afterBlock, afterTurn, Wp, atReturn, WpFn, Tables}
 use ghost.Atoms.{Atoms}
 use contract.Monad.{Fun}
 use contract.Running.{givenOf, tables, tablesOf}
@@ -47,9 +47,9 @@ use Rattle.model.proofs.Edition.Laws as E′
 use Rattle.file_blocks.specs.Blocks.{checkedAt, allChecked, joined}
 use Rattle.file_blocks.specs.declared.reader.Checked.{Checked}
 use Rattle.file_blocks.proofs.Checking.{Checking, none-checked, one-more, all-checked, Nearer, nearer-wf, comes-nearer}
-use Rattle.file_blocks.proofs.ReaderSteps.{token, D, L, file-val, file-own, reader-at, reader-is, edition-val, IsEdition, edition-typed, asked, asked-fact}
+use Rattle.file_blocks.proofs.ReaderSteps.{token, D, L, file-val, file-own, reader-at, reader-is, edition-val, IsEdition, edition-typed, asked, unasked}
 use Rattle.file_blocks.proofs.ReaderSteps.{beside, checked-own, with-edition, with-checked, file-twice, reader-shuts, frees-full, cells, tests, local}
-use Rattle.file_blocks.proofs.ReaderSteps.{returned, returned-last}
+use Rattle.file_blocks.proofs.ReaderSteps.{var, here, returned, returned-last}
 use Rattle.file_blocks.proofs.reader.BlockReader.Laws as T′
 use Rattle.file_blocks.proofs.reader.Checked as S
 use Rattle.file_blocks.proofs.reader.Checked.Laws as S′
@@ -153,29 +153,29 @@ module _ {M : Type 1} (𝓤 : URA M) (H : Heap 𝓤) (A : Atoms 𝓤) (W : Given
     unfolding afterTurn
     turns t =
         -- [the token; what the file owns; room for _0; …; _1; …; and so on, _i at 2 + 2 · i]
-        assigns ! (of-opd ! (load ! (from ! (fld ! refl (stop !))) (look-in ! 10 (sub ! 1 refl (whole !))))) (from ! (stop !))
+        assigns ! (of-opd ! (load ! (from ! (fld ! refl (stop !))) (look-in ! 10 (sub ! 1 refl (whole !))))) (here !)
         (init ! 16 refl (tt, record { fits = fits t })) $
-        assigns ! (bin ! (load ! (from ! (stop !)) (look ! 16 refl)) (load ! (from ! (stop !)) (look ! 8 refl)) tt) (from ! (stop !)) (init ! 18 refl (tt, tt)) $
-        tests ! (load ! (from ! (stop !)) (look ! 18 refl))
-        (λ less. assigns ! (of-opd ! (load ! (from ! (stop !)) (look ! 10 refl))) (from ! (stop !)) (init ! 20 refl (at-typed n (fits t))) $
+        assigns ! (bin ! (var ! 16 refl) (var ! 8 refl) tt) (here !) (init ! 18 refl (tt, tt)) $
+        tests ! (var ! 18 refl)
+        (λ less. assigns ! (of-opd ! (var ! 10 refl)) (here !) (init ! 20 refl (at-typed n (fits t))) $
         move ! (1 ∷ []) $ file-twice ! κ s $ reader-shuts ! κ s n (fits t) $ nothing ! $ with-checked ! c $ beside ! $ with-edition ! e is-e $
-        move ! (2 ∷ 0 ∷ []) $ use2 W (raw (Check 𝓤 H A mem run .pre (to-check n c))) (asked 𝓤 _) $
+        move ! (2 ∷ 0 ∷ []) $ use2 W (raw (Check 𝓤 H A mem run .pre (to-check n c))) (asked 𝓤 _ _ (ltb→lt n k less)) $
         calls-at ! fm (Check 𝓤 H A mem run) (known .checks) (to-check n c) (local ! 4 refl (local ! 20 refl (local ! 12 refl (no-more !))))
         (returned 𝓤 H A check.ended (check.clauses 𝓤 H A mem run) (κ, tt) (q, tt) (to-check n c .0 .3) tt (λ r. r ≡ found) (λ r ws. id⊢ 𝓤 _)
         found (λ r p. p) (S′.lowered found) (LL.tells S.the-type S′.the-laws found) ! (
-        land ! (from ! (stop !)) (store ! 12 refl (tt, (tt, (tt, tt)))) $
-        assigns ! (of-opd ! (load ! (from ! (stop !)) (look ! 10 refl))) (from ! (stop !)) (init ! 22 refl (at-typed n (fits t))) $
+        land ! (here !) (store ! 12 refl (tt, (tt, (tt, tt)))) $
+        assigns ! (of-opd ! (var ! 10 refl)) (here !) (init ! 22 refl (at-typed n (fits t))) $
         move ! (1 ∷ []) $ file-twice ! κ s $ reader-shuts ! κ s n (fits t) $ nothing ! $ beside ! $
-        move ! (2 ∷ 0 ∷ []) $ use2 W (raw (Advanced 𝓤 H A mem run .pre (to-advanced n))) (asked-fact 𝓤 _ _ (fits (next less))) $
+        move ! (2 ∷ 0 ∷ []) $ use2 W (raw (Advanced 𝓤 H A mem run .pre (to-advanced n))) (asked 𝓤 _ _ (fits (next less))) $
         calls-at-last ! fm (Advanced 𝓤 H A mem run) (known .advances) (to-advanced n) (local ! 22 refl (no-more !))
         (returned-last 𝓤 H A advanced.ended (advanced.clauses 𝓤 H A mem run) (κ, tt) (q, tt) (to-advanced n .0 .3) tt
         (λ r. (r .file ≡ s) × (r .next ≡ n + 1)) (λ r ws. id⊢ 𝓤 _)
         (reader-at s (n + 1)) (reader-is s (n + 1)) (at (n + 1)) (LL.tells (D (κ, tt)) (L (κ, tt)) (reader-at s (n + 1))) ! (
-        land-last ! (from ! (stop !)) (store ! 10 refl (at-typed (n + 1) (fits (next less)))) $
+        land-last ! (here !) (store ! 10 refl (at-typed (n + 1) (fits (next less)))) $
         use1 W (token κ q) (id⊢ 𝓤 _) $ forget ! 16 refl $ forget ! 18 refl $ forget ! 20 refl $ forget ! 22 refl $
         again ! (Nearer e (now s)) At t (next less) (comes-nearer e (now s) t (ltb→lt n k less)))))))
         (λ over. exec ! (𝓣 .C) (𝓣 .Λ) En t-6 (atRet En Post) $
-        assigns ! (of-opd ! (load ! (from ! (stop !)) (look ! 12 refl))) (from ! (stop !)) (init ! 2 refl (tt, (tt, (tt, tt)))) $
+        assigns ! (of-opd ! (var ! 12 refl)) (here !) (init ! 2 refl (tt, (tt, (tt, tt)))) $
         returns ! (look ! 2 refl) $
         move ! (2 ∷ 3 ∷ 4 ∷ 5 ∷ 6 ∷ 7 ∷ 8 ∷ 9 ∷ 10 ∷ 11 ∷ 12 ∷ 13 ∷ 14 ∷ 15 ∷ 16 ∷ 17 ∷ 18 ∷ 19 ∷ 20 ∷ 21 ∷ 22 ∷ 23 ∷ []) $
         frees-full ! $ frees-full ! $ frees-full ! $ frees-full ! $ frees-full ! $ frees-full ! $ frees-full ! $ frees-full ! $ frees-full ! $
@@ -200,15 +200,15 @@ module _ {M : Type 1} (𝓤 : URA M) (H : Heap 𝓤) (A : Atoms 𝓤) (W : Given
     runs-body : Sq W (token κ q ∷ ‵ (file-own κ s) ∷ cells 𝓤 H En (none ∷ some (edition-val e) ∷ some (file-val s) ∷ none ∷ none ∷ none ∷ none ∷ none ∷ none ∷ none ∷ none ∷ []))
         (runs (𝓣 .C) (𝓣 .Λ) En t-1 (atRet En Post))
     runs-body =
-        assigns ! (of-opd ! (load ! (from ! (fld ! refl (stop !))) (look-in ! 6 (sub ! 1 refl (whole !))))) (from ! (stop !))
+        assigns ! (of-opd ! (load ! (from ! (fld ! refl (stop !))) (look-in ! 6 (sub ! 1 refl (whole !))))) (here !)
         (init ! 14 refl (tt, record { fits = long })) $
-        assigns ! (bin ! (load ! (from ! (stop !)) (look ! 14 refl)) (lit ! tt) (omega arith)) (from ! (stop !)) (init ! 8 refl (tt, record { fits = omega (arith, long) })) $
-        move ! (1 ∷ []) $ file-twice ! κ s $ nothing ! $ beside ! $ move ! (2 ∷ 0 ∷ []) $ use2 W (raw (Start 𝓤 H A mem run .pre to-start)) (asked 𝓤 _) $
+        assigns ! (bin ! (var ! 14 refl) (lit ! tt) (omega arith)) (here !) (init ! 8 refl (tt, record { fits = omega (arith, long) })) $
+        move ! (1 ∷ []) $ file-twice ! κ s $ nothing ! $ beside ! $ move ! (2 ∷ 0 ∷ []) $ use2 W (raw (Start 𝓤 H A mem run .pre to-start)) (unasked 𝓤 _) $
         calls-at ! (fmOf 𝓤 H (W .laws) 𝓣) (Start 𝓤 H A mem run) (known .starts) to-start (local ! 6 refl (no-more !))
         (returned 𝓤 H A start.ended (start.clauses 𝓤 H A mem run) (κ, tt) (q, tt) (args .1) tt (λ r. (r .file ≡ s) × (r .next ≡ 0)) (λ r ws. id⊢ 𝓤 _)
         (reader-at s 0) (reader-is s 0) (at 0) (LL.tells (D (κ, tt)) (L (κ, tt)) (reader-at s 0)) ! (
-        land ! (from ! (stop !)) (init ! 10 refl (at-typed 0 (lit< tt))) $
-        assigns ! (agg ! (and-then ! (false-lit !) (and-then ! (true-lit !) (no-more !)))) (from ! (stop !)) (init ! 12 refl (tt, (tt, (tt, tt)))) $
+        land ! (here !) (init ! 10 refl (at-typed 0 (lit< tt))) $
+        assigns ! (agg ! (and-then ! (false-lit !) (and-then ! (true-lit !) (no-more !)))) (here !) (init ! 12 refl (tt, (tt, (tt, tt)))) $
         use1 W (token κ q) (id⊢ 𝓤 _) $ first ! $ blocks ! $ loops ! 𝓣 (Nearer e (now s)) (nearer-wf e (now s)) At turns (none-checked e (now s))))
 
   walk : (𝓣 : Tables 𝓤 H) → Known 𝓤 H A mem run 𝓣

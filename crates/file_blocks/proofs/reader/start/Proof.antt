@@ -19,7 +19,7 @@ use contract.Monad.{Fun}
 use contract.Running.{givenOf, tables, tablesOf}
 use types.Kit.{Given, ‵, raw, _$_, _∵_, !, qed, by, move, drop, fsplit, suffices, frame, done}
 use types.Part.{agg}
-use types.Run.{look, init, stop, from, lit, no-more, and-then, assigns, returns, enter, alloc1, alloc0, params1, pass1, pass0, free0}
+use types.Run.{look, init, lit, no-more, and-then, assigns, returns, enter, alloc1, alloc0, params1, pass1, pass0, free0}
 use sound.WpLaws.{WpFn-mono}
 use denote.RattleType.{owns}
 use denote.Builtin.{u8}
@@ -33,7 +33,7 @@ use denote.Triple.Table.{entered}
 use denote.Triple.Walked.{says, Stays, stay-none-slice, walkOf, goes-none-slice, ends-at, walked, walk-meets}
 use denote.Exit.{yes}
 use Rattle.file_blocks.specs.declared.reader.BlockReader.{BlockReader}
-use Rattle.file_blocks.proofs.ReaderSteps.{token, file-val, reader-at, beside, file-twice, reader-shuts, frees-full, local}
+use Rattle.file_blocks.proofs.ReaderSteps.{token, file-val, reader-at, beside, file-twice, reader-shuts, frees-full, local, here}
 use Rattle.file_blocks.proofs.reader.BlockReader.Laws as T′
 use Rattle.file_blocks.proofs.reader.start.Key.{name as #reader·start}
 use Rattle.file_blocks.proofs.reader.start as f
@@ -74,7 +74,7 @@ module _ {M : Type 1} (𝓤 : URA M) (H : Heap 𝓤) (A : Atoms 𝓤) (W : Given
         qed W (raw Entry ∷ []) ∵ enter ! C Λ code.function (file-val s ∷ []) _ $
         alloc1 ! (λ l₀. alloc1 ! (λ l₁. alloc0 ! $ move ! (2 ∷ 3 ∷ []) $ params1 ! $
         pass1 ! (init ! 2 refl (tt, (tt, (record { fits = long }, tt)))) $ pass0 ! $
-        assigns ! (agg ! (local ! 2 refl (and-then ! (lit ! tt) (no-more !)))) (from ! (stop !))
+        assigns ! (agg ! (local ! 2 refl (and-then ! (lit ! tt) (no-more !)))) (here !)
         (init ! 0 refl (tt, ((tt, (record { fits = long }, tt)), (record { fits = lit< tt }, tt)))) $
         returns ! (look ! 0 refl) $ frees-full ! $ frees-full ! $ free0 ! $ by ! exits))
 
