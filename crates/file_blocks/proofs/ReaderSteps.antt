@@ -16,7 +16,8 @@ use prog.Wp.{Heap, Env, Calls, Loops, spotOf, exits}
 use ghost.Atoms.{Atoms, sem}
 use contract.Lifetimes.{Lfts, Shares}
 use contract.Monad.{fact}
-use types.Kit.{Given, Item, Post, post, Goal, prop, runs, lands, settles, frees, Soaks, Seq, Step, step, mean, nth, ‵, raw, _⊛_, some as some-item, given, later}
+use types.Kit.{Given, Item, Post, post, Goal, prop, runs, lands, settles, frees, Soaks, Seq, Step, step, mean, nth}
+use types.Kit.{‵, raw, _⊛_, some as some-item, given, later}
 use types.Kit.{_$_, move, drop, use1, split, pick, learn, fsplit, fjoin, await}
 use types.Run.{Finds, Opd, Opds, look, forget, stop, from, load, and-then, first, skips, jumps, branches, free1}
 use denote.RattleType.{RattleType}
@@ -85,7 +86,7 @@ pub edition-typed : {M : Type 1} (𝓤 : URA M) (H : Heap 𝓤) (A : Atoms 𝓤)
     → Holds (hasTy E′.mir (edition-val e)) × WT (edition-val e)
 edition-typed 𝓤 H A W e is = EL.lawful E.the-type E′.the-laws 𝓤 H A W tt .typed e (edition-val e ∷ []) is .0
 
--- what is had on entry is what a function without `requires` asks, and beside a fact what one with that `requires` asks
+-- what the types own is what a call asks that has no `requires`; where that is a fact, with the fact
 pub unasked : {M : Type 1} (𝓤 : URA M) (P : SProp 𝓤) → ent 𝓤 P (sep 𝓤 P (emp 𝓤))
 unasked 𝓤 P = via 𝓤 (sep 𝓤 (emp 𝓤) P) (emp∗ 𝓤 P) (comm∗ 𝓤 (emp 𝓤) P)
 
@@ -97,8 +98,8 @@ module _ {M : Type 1} {𝓤 : URA M} {H : Heap 𝓤} {A : Atoms 𝓤} {K : Type 
   checked-own t c = owned t S.the-row (Is S.the-row) (LL.makes S.the-type S′.the-plain 𝓤 H A) c _ (LL.owes S.the-type S′.the-laws c (refl, (refl, tt)))
 
 module _ {M : Type 1} {𝓤 : URA M} {H : Heap 𝓤} {A : Atoms 𝓤} {K : Type 0} {W : Given 𝓤 H A} {Γ : List (Item 𝓤)} {G : Goal 𝓤 H} where
-  -- what is owned by parameters is put together from the last on: before the head stands the next entry, or what a number, an edition or what the
-  -- tests found owns, which is had for nothing
+  -- what parameters own is put together from the last on: to the head comes the entry after it, or what a number, an edition or what the tests found
+  -- owns, which is had for nothing
   pub beside : K → {P Q : Fml} → Step K W (‵ (fsep Q P) ∷ Γ) G (‵ P ∷ ‵ Q ∷ Γ) G
   beside t = step (λ k. move t (1 ∷ 0 ∷ []) $ fjoin t $ k)
 
@@ -112,7 +113,7 @@ module _ {M : Type 1} {𝓤 : URA M} {H : Heap 𝓤} {A : Atoms 𝓤} {K : Type 
   with-checked t c = step (λ k. checked-own t c $ fjoin t $ k)
 
 module _ {M : Type 1} {𝓤 : URA M} {H : Heap 𝓤} {A : Atoms 𝓤} {K : Type 0} {W : Given 𝓤 H A} {Γ : List (Item 𝓤)} {G : Goal 𝓤 H} where
-  -- a lent file is Copy: what it owns is had twice
+  -- a lent file is Copy
   pub file-twice : K → (κ : Lft) (s : RefT (List ℕ)) → Step K W (‵ (file-own κ s) ∷ ‵ (file-own κ s) ∷ Γ) G (‵ (file-own κ s) ∷ Γ) G
   file-twice t κ s =
       step (λ k. use1 W (‵ (file-own κ s) ⊛ ‵ (file-own κ s)) (shr-slice-copy 𝓤 H A W (named 0) κ u8 .twice s (file-val s ∷ [])) $ split t $ k)
@@ -163,8 +164,8 @@ module _ {M : Type 1} {𝓤 : URA M} {H : Heap 𝓤} {A : Atoms 𝓤} {K : Type 
   pub here : K → Finds K W Γ ls (place i []) (spotOf 𝓤 H ls i)
   here t = from t (stop t)
 
--- after a call whose `ensures`, the fact φ r of its result r, says that the result is x, with the machine value w: what it owns is not needed, and the
--- tokens are left. What is said of last values is dropped, since no parameter is a `&mut`
+-- after a call whose `ensures`, the fact φ r of its result r, says that the result is x, with the machine value w. The tokens are left: what the result owns
+-- is made anew where it is asked, and what is said of last values is dropped, since no parameter is a `&mut`
 module _ {M : Type 1} (𝓤 : URA M) (H : Heap 𝓤) (A : Atoms 𝓤) (F : Ended) (c : Clauses 𝓤 F) (κs : Lfts (F .signature .lifetimes))
     (qs : Shares (F .signature .lifetimes)) (a : Args (F .signature) κs) (g : c κs a .ghost) where
   abbrev R : RattleType
@@ -176,7 +177,8 @@ module _ {M : Type 1} (𝓤 : URA M) (H : Heap 𝓤) (A : Atoms 𝓤) (F : Ended
   abbrev Back : Val → Item 𝓤
   Back u = later (some-item (λ (r : Res (F .signature) κs). (Tokens ⊛ ‵ (R .own r (u ∷ []))) ⊛ raw (ensured 𝓤 H A F c κs a g r)))
 
-  module _ (φ : Res (F .signature) κs → Type 0) (says : (r : Res (F .signature) κs) (ws : Lasts F κs a) → ent 𝓤 (c κs a .ensures g r (atExit F κs a ws)) (fact 𝓤 (φ r)))
+  module _ (φ : Res (F .signature) κs → Type 0)
+      (says : (r : Res (F .signature) κs) (ws : Lasts F κs a) → ent 𝓤 (c κs a .ensures g r (atExit F κs a ws)) (fact 𝓤 (φ r)))
       (x : Res (F .signature) κs) (is : (r : Res (F .signature) κs) → φ r → r ≡ x) (w : Val) (tells : (vs : List Val) → Is R x vs → vs ≡ w ∷ [])
       {K : Type 0} {W : Given 𝓤 H A} {Γ : List (Item 𝓤)} where
     told : K → (G : Val → Goal 𝓤 H) → ((u : Val) → Soaks (G u)) → Seq K W (Tokens ∷ Γ) (G w) → (u : Val) → Seq K W (raw (mean 𝓤 H A (Back u)) ∷ Γ) (G u)
@@ -188,7 +190,8 @@ module _ {M : Type 1} (𝓤 : URA M) (H : Heap 𝓤) (A : Atoms 𝓤) (F : Ended
         subst (λ (v : Val). Seq K W (Tokens ∷ Γ) (G v)) (sym valued) k)))
 
     module _ {E : Env 𝓤 H} {d : Place} {q : Post 𝓤 H} where
-      pub returned : K → {C : Calls 𝓤 H} {Λ : Loops 𝓤 H} {rest : Body} → Seq K W (Tokens ∷ Γ) (lands C Λ E d w rest q) → (u : Val) → Seq K W (raw (mean 𝓤 H A (Back u)) ∷ Γ) (lands C Λ E d u rest q)
+      pub returned : K → {C : Calls 𝓤 H} {Λ : Loops 𝓤 H} {rest : Body} → Seq K W (Tokens ∷ Γ) (lands C Λ E d w rest q)
+          → (u : Val) → Seq K W (raw (mean 𝓤 H A (Back u)) ∷ Γ) (lands C Λ E d u rest q)
       returned t {C} {Λ} {rest} k = told t (λ u. lands C Λ E d u rest q) (λ u. tt) k
 
       -- where the call is the last statement of its part

@@ -49,7 +49,7 @@ pub fn check<'a>(edition: Edition, r: BlockReader<'a>, before: Checked) -> Check
     check_at(edition, r.file, r.next, before)
 }
 
-// The reader at the block after its next.
+// The reader, moved on to the block after.
 pub fn advanced<'a>(r: BlockReader<'a>) -> BlockReader<'a>
     requires { ⌜ r .next + 1 < 2 ^ 64 ⌝ }
     ensures { λ s. ⌜ (s .file ≡ r .entry .file) × (s .next ≡ r .entry .next + 1) ⌝ }

@@ -41,8 +41,9 @@ use Rattle.model.proofs.Edition.Laws as E′
 use Rattle.file_blocks.specs.Blocks.{checkedAt, joined}
 use Rattle.file_blocks.specs.declared.reader.BlockReader.{BlockReader}
 use Rattle.file_blocks.specs.declared.reader.Checked.{Checked}
-use Rattle.file_blocks.proofs.ReaderSteps.{token, D, L, B, file-val, file-own, edition-val, IsEdition, edition-typed, asked, beside}
-use Rattle.file_blocks.proofs.ReaderSteps.{checked-own, with-number, with-edition, with-checked, file-twice, reader-opens, reader-shuts, frees-full, local, here, returned}
+use Rattle.file_blocks.proofs.ReaderSteps.{token, D, L, B, file-val, file-own, edition-val, IsEdition, edition-typed, asked, checked-own, beside}
+use Rattle.file_blocks.proofs.ReaderSteps.{with-number, with-edition, with-checked, file-twice, reader-opens, reader-shuts, frees-full}
+use Rattle.file_blocks.proofs.ReaderSteps.{local, here, returned}
 use Rattle.file_blocks.proofs.reader.BlockReader.Laws as T′
 use Rattle.file_blocks.proofs.reader.Checked as S
 use Rattle.file_blocks.proofs.reader.Checked.Laws as S′
@@ -64,7 +65,8 @@ module _ {M : Type 1} (𝓤 : URA M) (H : Heap 𝓤) (A : Atoms 𝓤) (mem : Mem
   CheckAt = tripleOf 𝓤 H A step.signature (step.spec 𝓤 H A mem run)
 
 module _ {M : Type 1} (𝓤 : URA M) (H : Heap 𝓤) (A : Atoms 𝓤) (W : Given 𝓤 H A) (mem : Memory → SProp 𝓤) (run : Routine → Fun 𝓤)
-    (κ : Lft) (q : Share) (e : Edition) (is-e : IsEdition e) (d : BlockReader) (fits : d .next < 2 ^ 64) (there : d .next < length (now (d .file)) / 512) (c : Checked) where
+    (κ : Lft) (q : Share) (e : Edition) (is-e : IsEdition e) (d : BlockReader) (fits : d .next < 2 ^ 64) (there : d .next < length (now (d .file)) / 512)
+    (c : Checked) where
   abbrev mach : Val
   mach = T′.lowered d
 

@@ -11,7 +11,7 @@ returns c =
     let found = c .before .before in
     let at-slots = found .before .before .before .before in
     let start = at-slots .before .before in
-    ap (joined (start .args .before)) (checked-block (start .args .file .now) _ _ _ (at-slots .slots-in .ensures) _ _
+    ap (joined (start .args .before)) (checked-block (start .args .file .now) (start .args .b) _ _ (at-slots .slots-in .ensures) _ _
     (found .before .before .check-wrong .ensures) (found .block-laid .ensures))
 
 pub check-at-spec : {M : Type 1} → statement M

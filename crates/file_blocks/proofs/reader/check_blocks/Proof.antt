@@ -197,7 +197,8 @@ module _ {M : Type 1} (𝓤 : URA M) (H : Heap 𝓤) (A : Atoms 𝓤) (W : Given
         next less = one-more e (now s) t (ltb→lt n k less)
 
     -- the body, from the parameters on
-    runs-body : Sq W (token κ q ∷ ‵ (file-own κ s) ∷ cells 𝓤 H En (none ∷ some (edition-val e) ∷ some (file-val s) ∷ none ∷ none ∷ none ∷ none ∷ none ∷ none ∷ none ∷ none ∷ []))
+    runs-body : Sq W (token κ q ∷ ‵ (file-own κ s) ∷ cells 𝓤 H En (none ∷ some (edition-val e) ∷ some (file-val s) ∷ none ∷ none ∷ none ∷ none ∷ none
+        ∷ none ∷ none ∷ none ∷ []))
         (runs (𝓣 .C) (𝓣 .Λ) En t-1 (atRet En Post))
     runs-body =
         assigns ! (of-opd ! (load ! (from ! (fld ! refl (stop !))) (look-in ! 6 (sub ! 1 refl (whole !))))) (here !)
