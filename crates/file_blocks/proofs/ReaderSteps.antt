@@ -1,4 +1,4 @@
--- What the walks of `reader` have in common: what their parameters are, and the steps around a call. Assumes nothing.
+-- What the walks of `reader` have in common: what their parameters are, the steps around a call, and the test of a loop. Assumes nothing.
 use mathlib.Core.Path.{_≡_, refl, sym, ap, ap₂, subst}
 use Prim.Native.Nat.{ℕ, _<_, _^_}
 use mathlib.Core.Bool.{Bool, not}
