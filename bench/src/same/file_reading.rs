@@ -1,7 +1,6 @@
 //! Reading: any bytes as the rota of a file, or refused.
 
 use super::file_blocks::reader;
-use super::file_blocks::reader::Checked;
 use super::file_layout::{editions, numbers};
 use super::model::Edition;
 use super::{acceptance, file_layout, words};
@@ -19,21 +18,6 @@ pub fn no_rota(code: u32) -> FileRota {
     FileRota { code, n: 0, opens: [0u64; 64], callouts: [0u64; 64] }
 }
 
-// The tests of all blocks together.
-fn check_blocks(edition: Edition, file: &[u8]) -> Checked {
-    let k = file.len() / 512;
-    let mut wrong = false;
-    let mut laid = true;
-    let mut b = 0;
-    while b < k {
-        let c = reader::check_block(edition, file, b);
-        wrong = wrong | c.wrong;
-        laid = laid & c.laid;
-        b += 1;
-    }
-    Checked { wrong, laid }
-}
-
 // 12, 13, 14 or 0: the file's refusal, unless it is one of its words.
 fn layout_code(edition: Edition, file: &[u8]) -> u32 {
     let k = file.len() / 512;
@@ -46,7 +30,7 @@ fn layout_code(edition: Edition, file: &[u8]) -> u32 {
     if 3 < k {
         return 12;
     }
-    let c = check_blocks(edition, file);
+    let c = reader::check_blocks(edition, file);
     if c.wrong {
         return 13;
     }

@@ -1,4 +1,5 @@
 mod Comparing
 mod Layouts
 mod OneBlock
+mod Checking
 mod ReaderSteps

@@ -1,35 +1,30 @@
--- What the tests of block b find. Assumes nothing.
+-- Block b: its bytes, and what its tests find. Assumes nothing.
 use mathlib.Core.Path.{_≡_, sym, ap, ap₂, _∙_}
-use mathlib.Core.Bool.{Bool, true, false, and-true, or-false}
+use mathlib.Core.Bool.{Bool}
 use mathlib.Core.List.{List, [], _∷_}
-use Prim.Native.Nat.{ℕ, suc, _+_, _-_, _*_, _/_, _≤_, _<_}
+use Prim.Native.Nat.{ℕ, suc, _+_, _-_, _*_, _/_, _<_}
 use native.Mathlib.Omega.{arith}
-use lib.ListN.{length, getD, take, drop, drop-of-length-le}
+use lib.ListN.{length, getD, take, drop}
+use lib.Seq.{drop-cons}
 use Rattle.model.specs.declared.Edition.{Edition}
-use Rattle.model.specs.Lists.{any}
-use Rattle.model.specs.File.{cut, blocksIn, itemsIn, slotsIn, checkWrong, blockLaid, blocksLaid}
+use Rattle.model.specs.File.{cut, blocksIn, itemsIn, slotsIn, checkWrong, blockLaid}
 use Rattle.model.proofs.Files.{blocks-count, cut-drop}
-use Rattle.file_blocks.specs.Blocks.{checkedOf, checkedAt}
+use Rattle.file_blocks.specs.Blocks.{checkedAt}
 use Rattle.file_blocks.specs.declared.reader.Checked.{Checked}
 
-module _ (e : Edition) (file : List ℕ) (b : ℕ) where
-  pub checked-none : length file / 512 ≤ b → _≡_ {A = Checked} (record { wrong = false; laid = true }) (checkedAt e file b)
-  unfolding checkedAt any blocksLaid
-  checked-none h = sym (ap (λ l. checkedOf e file b (take 1 l)) (drop-of-length-le (blocksIn file) {i = b} (omega (arith, blocks-count file))))
-
-  next-block : b < length file / 512 → take 1 (drop b (blocksIn file)) ≡ take 512 (drop (512 * b) file) ∷ []
+module _ (file : List ℕ) (b : ℕ) where
+  pub block-next : b < length file / 512 → drop b (blocksIn file) ≡ take 512 (drop (512 * b) file) ∷ drop (suc b) (blocksIn file)
   unfolding blocksIn cut
-  next-block h =
+  block-next h =
       let k = length file / 512 in
       let q : k - b ≡ suc (k - suc b) = omega arith in
-      ap (take 1) (cut-drop b k file ∙ ap (λ j. cut j (drop (512 * b) file)) q)
+      let d = drop-cons (blocksIn file) b [] (omega (arith, blocks-count file)) in
+      let bytes = cut-drop b k file ∙ ap (λ j. cut j (drop (512 * b) file)) q in
+      d ∙ ap (λ l. getD l 0 [] ∷ drop (suc b) (blocksIn file)) (sym d ∙ bytes)
 
-  pub checked-block : b < length file / 512 → (m : ℕ) → m ≡ slotsIn e file → (w l : Bool) → let block = take (512 * b + 512 - 512 * b) (drop (512 * b) file) in
+  pub checked-block : (e : Edition) (m : ℕ) → m ≡ slotsIn e file → (w l : Bool) → let block = take (512 * b + 512 - 512 * b) (drop (512 * b) file) in
       w ≡ checkWrong e block → l ≡ blockLaid e (getD file 5 0) m b block → _≡_ {A = Checked} (record { wrong = w; laid = l }) (checkedAt e file b)
-  unfolding checkedAt any blocksLaid itemsIn
-  checked-block h m slots w l p q =
+  unfolding checkedAt itemsIn
+  checked-block e m slots w l p q =
       let size : 512 * b + 512 - 512 * b ≡ 512 = omega arith in
-      let block = take 512 (drop (512 * b) file) in
-      ap₂ (λ x y. record { wrong = x; laid = y }) (rw size at p ∙ sym (or-false (checkWrong e block)))
-      (rw (size, slots) at q ∙ sym (and-true (blockLaid e (getD file 5 0) (slotsIn e file) b block)))
-      ∙ sym (ap (checkedOf e file b) (next-block h))
+      ap₂ (λ x y. record { wrong = x; laid = y }) (rw size at p) (rw (size, slots) at q)

@@ -1,6 +1,8 @@
 // The block reader keeps the lent file and the next block's number. Its functions are thin: `check_at` does the work.
 ghost use mathlib.Core.Path.{_≡_};
-ghost use Rattle.file_blocks.specs.Blocks.{checkedAt};
+ghost use Prim.Native.Nat.{_+_, _/_, _<_, _^_};
+ghost use lib.ListN.{length};
+ghost use Rattle.file_blocks.specs.Blocks.{joined, checkedAt, allChecked};
 use crate::checks;
 use file_layout::editions;
 use model::Edition;
@@ -10,48 +12,67 @@ pub struct BlockReader<'a> {
     pub next: usize,
 }
 
-// What a block's tests found: its check is wrong; it is laid out.
+// What the tests of blocks found: a check is wrong; all are laid out.
 pub struct Checked {
     pub wrong: bool,
     pub laid: bool,
 }
 
-// The tests of block b; a block that is not there passes.
-pub fn check_at(edition: Edition, file: &[u8], b: usize) -> Checked
-    ensures { λ r. ⌜ r ≡ checkedAt edition (now (file .entry)) b ⌝ }
+// The tests of block b, joined with what was found before.
+pub fn check_at(edition: Edition, file: &[u8], b: usize, before: Checked) -> Checked
+    requires { ⌜ b < length (now file) / 512 ⌝ }
+    ensures { λ r. ⌜ r ≡ joined before (checkedAt edition (now (file .entry)) b) ⌝ }
 {
-    if file.len() / 512 <= b {
-        return Checked {
-            wrong: false,
-            laid: true,
-        };
-    }
     let m = editions::slots_in(edition, file);
     let at = 512 * b;
     let block = &file[at..at + 512];
+    let wrong = checks::check_wrong(edition, block);
+    let laid = checks::block_laid(edition, block, file[5], m, b);
     Checked {
-        wrong: checks::check_wrong(edition, block),
-        laid: checks::block_laid(edition, block, file[5], m, b),
+        wrong: before.wrong | wrong,
+        laid: before.laid & laid,
     }
 }
 
-// A reader at block `next`.
-pub fn at_block<'a>(file: &'a [u8], next: usize) -> BlockReader<'a>
-    ensures { λ r. ⌜ (r .file ≡ file .entry) × (r .next ≡ next) ⌝ }
+// A reader at a file's first block.
+pub fn start<'a>(file: &'a [u8]) -> BlockReader<'a>
+    ensures { λ r. ⌜ (r .file ≡ file .entry) × (r .next ≡ 0) ⌝ }
 {
-    BlockReader { file, next }
+    BlockReader { file, next: 0 }
 }
 
-// The tests of the reader's next block.
-pub fn check<'a>(edition: Edition, r: BlockReader<'a>) -> Checked
-    ensures { λ c. ⌜ c ≡ checkedAt edition (now (r .entry .file)) (r .entry .next) ⌝ }
+// The tests of the reader's next block, joined with what was found before.
+pub fn check<'a>(edition: Edition, r: BlockReader<'a>, before: Checked) -> Checked
+    requires { ⌜ r .next < length (now (r .file)) / 512 ⌝ }
+    ensures { λ c. ⌜ c ≡ joined before (checkedAt edition (now (r .entry .file)) (r .entry .next)) ⌝ }
 {
-    check_at(edition, r.file, r.next)
+    check_at(edition, r.file, r.next, before)
 }
 
-// With plain parameters: the loop over the blocks calls it and needs no walk.
-pub fn check_block(edition: Edition, file: &[u8], b: usize) -> Checked
-    ensures { λ c. ⌜ c ≡ checkedAt edition (now (file .entry)) b ⌝ }
+// The reader, moved on to the block after.
+pub fn advanced<'a>(r: BlockReader<'a>) -> BlockReader<'a>
+    requires { ⌜ r .next + 1 < 2 ^ 64 ⌝ }
+    ensures { λ s. ⌜ (s .file ≡ r .entry .file) × (s .next ≡ r .entry .next + 1) ⌝ }
 {
-    check(edition, at_block(file, b))
+    BlockReader {
+        file: r.file,
+        next: r.next + 1,
+    }
+}
+
+// The tests of all blocks: a reader goes from block to block.
+pub fn check_blocks(edition: Edition, file: &[u8]) -> Checked
+    ensures { λ c. ⌜ c ≡ allChecked edition (now (file .entry)) ⌝ }
+{
+    let k = file.len() / 512;
+    let mut r = start(file);
+    let mut c = Checked {
+        wrong: false,
+        laid: true,
+    };
+    while r.next < k {
+        c = check(edition, r, c);
+        r = advanced(r);
+    }
+    c
 }

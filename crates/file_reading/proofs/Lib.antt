@@ -1,4 +1,3 @@
-mod Checking
 mod FileRefusals
 mod Values
 mod Inside

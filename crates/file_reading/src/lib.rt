@@ -7,10 +7,8 @@ ghost use lib.ListN.{length, drop, replicate};
 ghost use Rattle.model.specs.Rota.{cellCode};
 ghost use Rattle.model.specs.File.{wordsIn, blocksIn, itemsIn, slotsIn, opensIn, calloutsIn, laidOut, fileCode};
 ghost use Rattle.model.specs.Refusal.{orElse};
-ghost use Rattle.file_blocks.specs.Blocks.{allChecked};
 ghost use Rattle.file_reading.specs.FileRota.{rotaUnless, noRota};
 use file_blocks::reader;
-use file_blocks::reader::Checked;
 use file_layout::editions;
 use file_layout::numbers;
 use model::Edition;
@@ -35,23 +33,6 @@ pub fn no_rota(code: u32) -> FileRota
     }
 }
 
-// The tests of all blocks together.
-fn check_blocks(edition: Edition, file: &[u8]) -> Checked
-    ensures { λ r. ⌜ r ≡ allChecked edition (now (file .entry)) ⌝ }
-{
-    let k = file.len() / 512;
-    let mut wrong = false;
-    let mut laid = true;
-    let mut b = 0;
-    while b < k {
-        let c = reader::check_block(edition, file, b);
-        wrong = wrong | c.wrong;
-        laid = laid & c.laid;
-        b += 1;
-    }
-    Checked { wrong, laid }
-}
-
 // 12, 13, 14 or 0: the file's refusal, unless it is one of its words.
 fn layout_code(edition: Edition, file: &[u8]) -> u32
     ensures code { λ r. ⌜ orElse r (cellCode (slotsIn edition (now (file .entry))) (opensIn (now (file .entry))) (calloutsIn (now (file .entry))))
@@ -69,7 +50,7 @@ fn layout_code(edition: Edition, file: &[u8]) -> u32
     if 3 < k {
         return 12;
     }
-    let c = check_blocks(edition, file);
+    let c = reader::check_blocks(edition, file);
     if c.wrong {
         return 13;
     }
