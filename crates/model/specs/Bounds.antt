@@ -10,6 +10,7 @@ use Rattle.model.specs.Grade.{gradeOf, rate}
 use Rattle.model.specs.File.{blocksFor, fileCode}
 use Rattle.model.specs.Refusal.{fleetCode, roomCode}
 use Rattle.model.specs.CountAnswers.{countCode}
+use Rattle.model.specs.ListingText.{decimal, lastLine}
 
 -- acceptance, and what count, grade and price add
 pub record Codes : Type 0 where
@@ -66,3 +67,17 @@ pub record Figures : Type 0 where
 pub figures : Figures
 unfolding gradeOf rate blocksFor
 figures = search refl
+
+-- numbers in a listing, and its last line below, at and above the 1,000 plans that are listed
+pub record Lines : Type 0 where
+  pub nought : decimal 0 ≡ 48 ∷ []
+  pub one-digit : decimal 9 ≡ 57 ∷ []
+  pub two-digits : decimal 10 ≡ 49 ∷ 48 ∷ []
+  pub most-digits : decimal (2 ^ 64 - 1) ≡ 49 ∷ 56 ∷ 52 ∷ 52 ∷ 54 ∷ 55 ∷ 52 ∷ 52 ∷ 48 ∷ 55 ∷ 51 ∷ 55 ∷ 48 ∷ 57 ∷ 53 ∷ 53 ∷ 49 ∷ 54 ∷ 49 ∷ 53 ∷ []
+  pub plans-999 : lastLine 999 ≡ 101 ∷ 110 ∷ 100 ∷ 32 ∷ 57 ∷ 57 ∷ 57 ∷ 10 ∷ []
+  pub plans-1000 : lastLine 1000 ≡ 101 ∷ 110 ∷ 100 ∷ 32 ∷ 49 ∷ 48 ∷ 48 ∷ 48 ∷ 10 ∷ []
+  pub plans-1001 : lastLine 1001 ≡ 109 ∷ 111 ∷ 114 ∷ 101 ∷ 32 ∷ 49 ∷ 48 ∷ 48 ∷ 48 ∷ 10 ∷ []
+
+pub lines : Lines
+unfolding decimal lastLine
+lines = search refl

@@ -16,5 +16,6 @@ pub mod PriceAnswers
 pub mod FileAnswers
 pub mod Lister
 pub mod Listing
+pub mod ListingText
 pub mod Rows
 pub mod Bounds
