@@ -2,7 +2,7 @@
 use mathlib.Core.Path.{_≡_, refl, sym, ap, ap₂, _∙_}
 use mathlib.Core.Logic.{_≢_}
 use mathlib.Core.List.{List}
-use Prim.Native.Nat.{ℕ, _≤_}
+use Prim.Native.Nat.{ℕ, _+_, _*_, _≤_}
 use native.Mathlib.Omega.{arith}
 use native.Mathlib.Decide.{ℕ-discrete}
 use lib.ListN.{length, take, replicate}
@@ -41,7 +41,7 @@ text-is : (file : List ℕ) → listingText Edition.One file
 unfolding listingText
 text-is file = refl
 
-module _ (file : List ℕ) (r : ReadAnswer) (read : r ≡ readAnswer Edition.One file 64 64) (page : List ℕ) (room : 203018 ≤ length page) where
+module _ (file : List ℕ) (r : ReadAnswer) (read : r ≡ readAnswer Edition.One file 64 64) (page : List ℕ) (room : 8 + 1000 * 203 + 10 ≤ length page) where
   code-is : r .code ≡ fileCode Edition.One file
   code-is = ap (λ (x : ReadAnswer). x .code) read ∙ read-code Edition.One file 64 64 ∙ all-read file
 

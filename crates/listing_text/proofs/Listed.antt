@@ -169,7 +169,8 @@ module _ {opens callouts old page : List ℕ} {s : Stepped} {k at : ℕ} (g : Gi
       line-end w = let b = line-written w in omega (arith, b .within, b .sized)
 
       pub given-more : {part : List ℕ} {r : ℕ} → Wrote (planLine callouts (k + 1) p) (tail at page) part r
-          → {s′ : Stepped} → s′ ≡ stepOf (s .lister) (length opens) (length opens) opens callouts → Given opens callouts old (put at page part) s′ (k + 1) (at + r)
+          → {s′ : Stepped} → s′ ≡ stepOf (s .lister) (length opens) (length opens) opens callouts
+          → Given opens callouts old (put at page part) s′ (k + 1) (at + r)
       given-more {part} {r} w {s′} q′ =
           record {
             listed = omega arith;

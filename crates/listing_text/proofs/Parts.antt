@@ -40,7 +40,15 @@ module _ {text old page : List ℕ} {at : ℕ} where
   module _ (x rest : List ℕ) (w : Begun text (x ++ rest) old page at) where
     left : at + (length x + length rest) ≤ length page
     left =
-        omega (arith, w .room, w .sized, ap length (w .front), length-append (take at page) (x ++ rest), length-take-le at page (w .within), length-append x rest)
+        omega (
+          arith,
+          w .room,
+          w .sized,
+          ap length (w .front),
+          length-append (take at page) (x ++ rest),
+          length-take-le at page (w .within),
+          length-append x rest,
+        )
 
     tail-is : tail at page ≡ drop at page
     tail-is = take-all (length page - at) (drop at page) (omega (arith, length-drop at page))
@@ -54,7 +62,8 @@ module _ {text old page : List ℕ} {at : ℕ} where
     more {part} {k} p =
         let back = drop k (drop at page) in
         let part-is : part ≡ x ++ back = p .bytes ∙ ap (λ l. x ++ drop k l) tail-is in
-        let nothing : drop (length page - at) (drop at page) ≡ [] = drop-of-length-le (drop at page) {i = length page - at} (omega (arith, length-drop at page)) in
+        let nothing : drop (length page - at) (drop at page) ≡ [] =
+        drop-of-length-le (drop at page) {i = length page - at} (omega (arith, length-drop at page)) in
         let new : put at page part ≡ (take at page ++ x) ++ back =
         ap (λ l. take at page ++ (part ++ l)) nothing ∙ ap (take at page ++_) (append-nil part ∙ part-is) ∙ sym (append-assoc (take at page) x back) in
         let size : length (take at page ++ x) ≡ at + k =

@@ -2,7 +2,7 @@
 // answers how many bytes that was.
 ghost use mathlib.Core.Path.{_≡_};
 ghost use mathlib.Core.List.{flatMap};
-ghost use Prim.Native.Nat.{_≤_};
+ghost use Prim.Native.Nat.{_+_, _*_, _≤_};
 ghost use lib.ListN.{length};
 ghost use Rattle.model.specs.declared.Edition.{Edition};
 ghost use Rattle.model.specs.Rota.{tableCode};
@@ -13,8 +13,8 @@ use model::Lister;
 use model::Plan;
 use rota::lister::Stepped;
 
-// The room that every listing has enough of: a first line of 8 bytes, 1,000 lines of 203, a last line of 10.
-pub const ROOM: usize = 203018;
+// Room for every listing: a first line of 8 bytes, 1,000 lines of 203, a last line of 10.
+pub const ROOM: usize = 8 + 1000 * 203 + 10;
 
 // The digits of a number.
 fn number(x: u64, out: &mut [u8]) -> usize
@@ -148,7 +148,7 @@ fn rota_listing(opens: &[u64], callouts: &[u64], out: &mut [u8]) -> usize
 
 // The listing of any bytes as a rota file.
 pub fn write_listing(file: &[u8], page: &mut [u8]) -> usize
-    requires { ⌜ 203018 ≤ length (now page) ⌝ }
+    requires { ⌜ 8 + 1000 * 203 + 10 ≤ length (now page) ⌝ }
     ensures { λ r. ⌜ Wrote (listingText Edition.One (now (file .entry))) (now (page .entry)) (now (page .exit)) r ⌝ }
 {
     let mut opens = [0u64; 64];

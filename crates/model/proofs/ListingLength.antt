@@ -22,6 +22,9 @@ use Rattle.model.proofs.Editions.{slots-few}
 use Rattle.model.proofs.Files.{accepted-file}
 use Rattle.model.proofs.Decimal.{decimal-length, decimal-fits}
 
+abbrev most : ℕ
+most = 8 + 1000 * 203 + 10
+
 -- ---- the lines
 
 number-line : (word : List ℕ) (x k : ℕ) → length (decimal x) ≤ k → length (numberLine word x) ≤ length word + k + 1
@@ -71,9 +74,10 @@ module _ (callouts : List ℕ) (items : length callouts ≤ 64) where
   plan-lines (suc j) k [] h s = omega arith
   plan-lines (suc j) k (p ∷ l) h s =
       let rest = plan-lines j (suc k) l (omega arith) (λ q m. s q (List·Memᴰ·tail m)) in
-      omega (arith, length-append (planLine callouts k p) (planLines callouts (suc k) (take j l)), plan-line k p (omega arith) (s p (List·Memᴰ·head refl)), rest)
+      let first = plan-line k p (omega arith) (s p (List·Memᴰ·head refl)) in
+      omega (arith, length-append (planLine callouts k p) (planLines callouts (suc k) (take j l)))
 
-  listing-of : (n : ℕ) (l : List (List ℕ)) → n < 100 → ((p : List ℕ) → List·Memᴰ p l → Short p) → length (listingOf n callouts l) ≤ 203018
+  listing-of : (n : ℕ) (l : List (List ℕ)) → n < 100 → ((p : List ℕ) → List·Memᴰ p l → Short p) → length (listingOf n callouts l) ≤ most
   unfolding listingOf
   listing-of n [] h s = omega (arith, refused-line 9)
   listing-of n (p ∷ rest) h s =
@@ -90,13 +94,13 @@ module _ (callouts : List ℕ) (items : length callouts ≤ 64) where
 
 -- ---- the listing
 
-unless-length : (c most : ℕ) (text : List ℕ) → 29 ≤ most → (c ≡ 0 → length text ≤ most) → length (unless refusedLine c text) ≤ most
+unless-length : (c : ℕ) (text : List ℕ) → (c ≡ 0 → length text ≤ most) → length (unless refusedLine c text) ≤ most
 unfolding unless
-unless-length zero most text h f = f refl
-unless-length (suc c) most text h f = omega (arith, refused-line (suc c))
+unless-length zero text f = f refl
+unless-length (suc c) text f = omega (arith, refused-line (suc c))
 
-pub rota-listing-length : (n m : ℕ) (opens callouts : List ℕ) → tableCode n m opens callouts ≡ 0 → m ≤ 64 → length (listingOf n callouts (plans m opens)) ≤ 203018
-rota-listing-length n m opens callouts ok narrow =
+rota-length : (n m : ℕ) (opens callouts : List ℕ) → tableCode n m opens callouts ≡ 0 → m ≤ 64 → length (listingOf n callouts (plans m opens)) ≤ most
+rota-length n m opens callouts ok narrow =
     let t = tables-from n m opens callouts ok in
     let F = few n m opens callouts ok in
     let R = range n m opens callouts ok in
@@ -105,10 +109,10 @@ rota-listing-length n m opens callouts ok narrow =
     let below = bit-one-lt m (getD opens i 0) (getD p i 0) (R i at) (plan-from m opens F R p h .open-cell i at) in
     omega arith)
 
-pub listing-length : (e : Edition) (file : List ℕ) → length (listingText e file) ≤ 203018
+pub listing-length : (e : Edition) (file : List ℕ) → length (listingText e file) ≤ 8 + 1000 * 203 + 10
 unfolding listingText
 listing-length e file =
-    unless-length (fileCode e file) 203018 _ (omega arith) (λ z.
+    unless-length (fileCode e file) _ (λ z.
     let ok = accepted-file e file z in
     let t = tables-from (itemsIn file) (slotsIn e file) (opensIn file) (calloutsIn file) ok in
-    rota-listing-length (itemsIn file) (slotsIn e file) (opensIn file) (calloutsIn file) ok (slots-few e file refl (t .few-items)))
+    rota-length (itemsIn file) (slotsIn e file) (opensIn file) (calloutsIn file) ok (slots-few e file refl (t .few-items)))

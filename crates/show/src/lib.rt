@@ -43,7 +43,7 @@ fn read_bytes(fd: i32, buffer: &mut [u8]) -> Got
 
 // Writes the listing of some bytes as a file.
 fn show(file: &[u8]) {
-    let mut page = [0u8; 203018];
+    let mut page = [0u8; listing_text::ROOM];
     let n = listing_text::write_listing(file, &mut page);
     if !io::write_all(STDOUT_FILENO, &page[..n]) {
         os::fail(b"write");

@@ -65,7 +65,8 @@ sub-number-line c = given (c .before .before .before .before) .within
 line : (c : lts.After-number-line claims Pre Post) → let counted = c .before .before .before .before .before .before in
     let at = counted .before .before .before .before .before in let a = at .before .before .before .before .args in let b = at .number .result + 1 in
     Begun (planLine (a .callouts .now) (a .k) (a .t3)) [] (a .out .now)
-    (put (b + counted .slots .result) (put b (set (at .number .last .1 .0) (at .number .result) 58) (counted .slots .last .1 .0)) (c .number-line .last .1 .1 .0))
+    (put (b + counted .slots .result) (put b (set (at .number .last .1 .0) (at .number .result) 58) (counted .slots .last .1 .0))
+    (c .number-line .last .1 .1 .0))
     (b + counted .slots .result + c .number-line .result)
 line c =
     let counted = c .before .before .before .before .before .before in
@@ -77,6 +78,7 @@ add-result c = let w = line (c .before .before) in omega (arith, w .within, w .s
 pub plan-line-spec : {M : Type 1} → statement M
 plan-line-spec =
     tie.close (tie.spec number-requires (λ c. inside (position (c .before .before))) add-b (λ c. search needs) (λ c. sym (length-take-le _ _ (omega arith)))
-    (λ c. byte (position (c .before .before .before)) .within) (λ c. byte (position (c .before .before .before)) .within) (λ c. search needs) slots-requires add-c
+    (λ c. byte (position (c .before .before .before)) .within) (λ c. byte (position (c .before .before .before)) .within) (λ c. search needs) slots-requires
+    add-c
     (λ c. search needs) (λ c κs. search needs) sub-number-line sub-number-line (λ c. search needs) number-line-requires add-result
     (λ c. line (c .before .before) .sized) (λ c. done (line (c .before .before))))

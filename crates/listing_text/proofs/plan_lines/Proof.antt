@@ -20,8 +20,18 @@ use Rattle.listing_text.proofs.plan_lines.Statement.{statement}
 use Rattle.listing_text.proofs.plan_lines.Tie as tie
 
 abbrev claims : lts.Claims
-claims =
-    (code-of.Asked, code-of.Learnt, plan-of.Asked, plan-of.Learnt, plan-line.Asked, plan-line.Learnt, step.Asked, step.Learnt, last-line.Asked, last-line.Learnt)
+claims = (
+  code-of.Asked,
+  code-of.Learnt,
+  plan-of.Asked,
+  plan-of.Learnt,
+  plan-line.Asked,
+  plan-line.Learnt,
+  step.Asked,
+  step.Learnt,
+  last-line.Asked,
+  last-line.Learnt,
+)
 
 abbrev Inv-loop : tie.InvT-loop
 Inv-loop opens callouts out₀ s₀ k₀ at₀ out s k at = Given opens callouts out₀ out s k at
@@ -38,7 +48,8 @@ plan-line-requires c κs =
     let head = tested .before .before in
     let t = tables-from _ _ _ _ (head .before .before .before .before .pre .0) in (
       omega (arith, t .few-items, t .callout-words),
-      line-fits (head .loop .inv) (sym (tested .code-of .ensures) ∙ c .before .before .if1 .left) (tested .before .loop-test .taken) (c .before .plan-of .ensures),
+      line-fits (head .loop .inv) (sym (tested .code-of .ensures) ∙ c .before .before .if1 .left) (tested .before .loop-test .taken)
+          (c .before .plan-of .ensures),
     )
 
 loop-again : tie.Need-loop-again Inv-loop μ-loop

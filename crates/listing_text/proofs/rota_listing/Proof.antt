@@ -46,8 +46,8 @@ first-requires c κs =
     (a .out .now) (start .pre .1)
 
 first : (c : lts.After-number-line2 claims Pre Post) → let a = c .before .before .before .before .before .before .before .before .before .args in
-    Begun (listingOf (length (a .opens .now)) (a .callouts .now) (plans (length (a .opens .now)) (a .opens .now))) (afterFirst (a .opens .now) (a .callouts .now))
-    (a .out .now) (c .number-line2 .last .1 .1 .0) (c .number-line2 .result)
+    Begun (listingOf (length (a .opens .now)) (a .callouts .now) (plans (length (a .opens .now)) (a .opens .now)))
+    (afterFirst (a .opens .now) (a .callouts .now)) (a .out .now) (c .number-line2 .last .1 .1 .0) (c .number-line2 .result)
 first c =
     let tested = c .before .before .before .before in
     let start = tested .before .before .before .before .before in
@@ -67,7 +67,8 @@ plan-lines-requires c κs =
 written : (c : lts.After-plan-lines claims Pre Post) → let line = c .before .before .before .before in
     let a = line .before .before .before .before .before .before .before .before .before .args in
     Begun (listingOf (length (a .opens .now)) (a .callouts .now) (plans (length (a .opens .now)) (a .opens .now))) [] (a .out .now)
-    (put (line .number-line2 .result) (line .number-line2 .last .1 .1 .0) (c .plan-lines .last .1 .1 .1 .0)) (line .number-line2 .result + c .plan-lines .result)
+    (put (line .number-line2 .result) (line .number-line2 .last .1 .1 .0) (c .plan-lines .last .1 .1 .1 .0))
+    (line .number-line2 .result + c .plan-lines .result)
 written c =
     let line = c .before .before .before .before in
     let a = line .before .before .before .before .before .before .before .before .before .args in

@@ -48,8 +48,8 @@ rota-returns c =
     let done = c .before .before .before .before .before .before .before .before .before .before in
     let start = done .before .before .before .before .before in
     let r = done .rota-read-file .ensures in
-    rota-written (start .args .file .now) _ (r .0) (start .args .page .now) (start .pre) (c .before .before .before .before .before .before .if1 .left) _ _ (r .1 .0)
-    (r .1 .1) (c .before .before .rota-listing .ensures)
+    rota-written (start .args .file .now) _ (r .0) (start .args .page .now) (start .pre) (c .before .before .before .before .before .before .if1 .left) _ _
+    (r .1 .0) (r .1 .1) (c .before .before .rota-listing .ensures)
 
 pub write-listing-spec : {M : Type 1} → statement M
 write-listing-spec =
