@@ -22,11 +22,11 @@ fn number(x: u64, out: &mut [u8]) -> usize
     ensures { λ r. ⌜ Wrote (decimal x) (now (out .entry)) (now (out .exit)) r ⌝ }
 {
     if x < 10 {
-        out[0] = 48 + x as u8;
+        out[0] = b'0' + x as u8;
         return 1;
     }
     let k = number(x / 10, out);
-    out[k] = 48 + (x % 10) as u8;
+    out[k] = b'0' + (x % 10) as u8;
     k + 1
 }
 
@@ -37,7 +37,7 @@ fn number_line(word: &[u8], x: u64, out: &mut [u8]) -> usize
 {
     let a = bytes::copy(word, out);
     let b = a + number(x, &mut out[a..]);
-    out[b] = 10;
+    out[b] = b'\n';
     b + 1
 }
 
@@ -46,7 +46,7 @@ fn slot(j: u8, out: &mut [u8]) -> usize
     requires { ⌜ length (slotText j) ≤ length (now out) ⌝ }
     ensures { λ r. ⌜ Wrote (slotText j) (now (out .entry)) (now (out .exit)) r ⌝ }
 {
-    out[0] = 32;
+    out[0] = b' ';
     1 + number(j as u64, &mut out[1..])
 }
 
@@ -70,7 +70,7 @@ fn plan_line(callouts: &[u64], k: u64, plan: [u8; 64], out: &mut [u8]) -> usize
     ensures { λ r. ⌜ Wrote (planLine (now (callouts .entry)) k plan) (now (out .entry)) (now (out .exit)) r ⌝ }
 {
     let a = number(k, out);
-    out[a] = 58;
+    out[a] = b':';
     let b = a + 1;
     let n = callouts.len();
     let c = b + slots(&plan[..n], &mut out[b..]);
