@@ -1,6 +1,6 @@
-pub mod Parts
-mod Numbers
-mod Lines
-mod Listed
-mod Rotas
-mod Bytes
+pub mod Begun
+mod Digits
+mod LineParts
+mod PlansGiven
+mod FirstSteps
+mod FileListing

@@ -4,7 +4,7 @@ use native.Mathlib.Omega.{arith}
 use borrow.Author.Needs.{needs}
 use borrow.Fn.Kinds.{In}
 use borrow.Fn.PlainCycle.{Measures, is, falls, and}
-use Rattle.listing_text.proofs.Numbers.{digit-place, digit-written, tenth-room, last-place, last-written}
+use Rattle.listing_text.proofs.Digits.{digit-place, digit-written, tenth-room, last-place, last-written}
 use Rattle.listing_text.proofs.number.Reads.{Pre, Post}
 use Rattle.listing_text.proofs.number.Kinds as number-kinds
 use Rattle.listing_text.proofs.+number.Lts-number as lts

@@ -5,8 +5,8 @@ use native.Mathlib.Omega.{arith}
 use borrow.Author.Needs.{needs}
 use Rattle.bytes.proofs.copy.Reads as copy
 use Rattle.model.specs.ListingText.{decimal, numberLine}
-use Rattle.listing_text.proofs.Parts.{Begun, put, fits, more, inside, byte, done, copied}
-use Rattle.listing_text.proofs.Lines.{word-fits, word-written}
+use Rattle.listing_text.proofs.Begun.{Begun, put, fits, more, inside, byte, done, copy-wrote}
+use Rattle.listing_text.proofs.LineParts.{word-fits, word-written}
 use Rattle.listing_text.proofs.number.Reads as number
 use Rattle.listing_text.proofs.number_line.Reads.{Pre, Post}
 use Rattle.listing_text.proofs.number_line.Lts as lts
@@ -26,7 +26,7 @@ word : (c : lts.After-copy claims Pre Post) → let a = c .before .before .befor
 word c =
     let start = c .before .before .before .before in
     let a = start .args in
-    word-written (a .word .now) (a .x) (a .out .now) (start .pre) (copied (a .word .now) (c .copy .ensures .0) (c .copy .ensures .1))
+    word-written (a .word .now) (a .x) (a .out .now) (start .pre) (copy-wrote (a .word .now) (c .copy .ensures .0) (c .copy .ensures .1))
 
 number-requires : tie.Need-number-requires
 number-requires c κs = fits (decimal _) (10 ∷ []) (word (c .before .before .before))

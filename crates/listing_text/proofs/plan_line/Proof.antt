@@ -9,8 +9,8 @@ use lib.Seq.{length-take-le}
 use Rattle.plan.proofs.callouts_of.Reads as callouts-of
 use Rattle.model.specs.Fewest.{calloutsOf}
 use Rattle.model.specs.ListingText.{numberLine, slotText, planLine}
-use Rattle.listing_text.proofs.Parts.{Begun, put, fits, more, fits-last, last, inside, byte, done}
-use Rattle.listing_text.proofs.Lines.{slash, cells, position-fits, position-written}
+use Rattle.listing_text.proofs.Begun.{Begun, put, fits, more, fits-last, last, inside, byte, done}
+use Rattle.listing_text.proofs.LineParts.{slash, cells, position-fits, position-written}
 use Rattle.listing_text.proofs.number.Reads as number
 use Rattle.listing_text.proofs.slots.Reads as slots
 use Rattle.listing_text.proofs.number_line.Reads as number-line

@@ -8,8 +8,8 @@ use borrow.Author.Needs.{needs}
 use Rattle.model.proofs.Accepted.{tables-from}
 use Rattle.rota.proofs.lister.step.Reads as step
 use Rattle.listing_text.specs.Writing.{endOrMore, afterFirst}
-use Rattle.listing_text.proofs.Parts.{Begun, put, fits-last, last, done}
-use Rattle.listing_text.proofs.Listed.{Given, given-none, line-fits, line-end, given-more, given-last}
+use Rattle.listing_text.proofs.Begun.{Begun, put, fits-last, last, done}
+use Rattle.listing_text.proofs.PlansGiven.{Given, given-none, line-fits, line-end, given-more, given-last}
 use Rattle.listing_text.proofs.code_of.Reads as code-of
 use Rattle.listing_text.proofs.plan_of.Reads as plan-of
 use Rattle.listing_text.proofs.plan_line.Reads as plan-line

@@ -8,8 +8,8 @@ use Rattle.model.specs.Plans.{plans}
 use Rattle.model.specs.ListingText.{listingOf}
 use Rattle.rota.proofs.lister.step.Reads as step
 use Rattle.listing_text.specs.Writing.{afterFirst}
-use Rattle.listing_text.proofs.Parts.{Begun, put, fits-last, last, done}
-use Rattle.listing_text.proofs.Rotas.{refused-fits, refused-written, first-line-fits, first-line-written}
+use Rattle.listing_text.proofs.Begun.{Begun, put, fits-last, last, done}
+use Rattle.listing_text.proofs.FirstSteps.{refused-fits, refused-written, first-line-fits, first-line-written}
 use Rattle.listing_text.proofs.code_of.Reads as code-of
 use Rattle.listing_text.proofs.number_line.Reads as number-line
 use Rattle.listing_text.proofs.plan_lines.Reads as plan-lines

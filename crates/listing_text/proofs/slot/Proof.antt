@@ -5,8 +5,8 @@ use mathlib.Core.List.{[], _∷_}
 use lib.ListN.{set}
 use borrow.Author.Needs.{needs}
 use Rattle.model.specs.ListingText.{decimal, slotText}
-use Rattle.listing_text.proofs.Parts.{Begun, put, fits-last, last, inside, byte, done}
-use Rattle.listing_text.proofs.Lines.{slot-begun}
+use Rattle.listing_text.proofs.Begun.{Begun, put, fits-last, last, inside, byte, done}
+use Rattle.listing_text.proofs.LineParts.{slot-begun}
 use Rattle.listing_text.proofs.number.Reads as number
 use Rattle.listing_text.proofs.slot.Reads.{Pre, Post}
 use Rattle.listing_text.proofs.slot.Lts as lts

@@ -3,15 +3,15 @@ use Prim.Native.Nat.{_-_}
 use native.Mathlib.Omega.{arith}
 use lib.ListN.{length}
 use borrow.Author.Needs.{needs}
-use Rattle.listing_text.proofs.Parts.{done}
-use Rattle.listing_text.proofs.Lines.{Slots, slots-none, slots-done, slot-fits, slots-more}
+use Rattle.listing_text.proofs.Begun.{done}
+use Rattle.listing_text.proofs.LineParts.{SlotsBegun, slots-none, slots-done, slot-fits, slots-more}
 use Rattle.listing_text.proofs.slot.Reads as slot
 use Rattle.listing_text.proofs.slots.Lts as lts
 use Rattle.listing_text.proofs.slots.Statement.{statement}
 use Rattle.listing_text.proofs.slots.Tie as tie
 
 abbrev Inv-loop : tie.InvT-loop
-Inv-loop plan out₀ at₀ i₀ out at i = Slots plan out₀ out at i
+Inv-loop plan out₀ at₀ i₀ out at i = SlotsBegun plan out₀ out at i
 
 abbrev μ-loop : tie.MeasureT-loop
 μ-loop plan out₀ at₀ i₀ out at i = length plan - i

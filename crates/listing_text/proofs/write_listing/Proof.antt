@@ -2,7 +2,7 @@
 use mathlib.Core.Path.{sym}
 use borrow.Author.Needs.{needs}
 use lib.Seq.{length-take-le}
-use Rattle.listing_text.proofs.Bytes.{refusal-fits, refusal-written, opens-long, callouts-long, rota-accepted, rota-fits, rota-written}
+use Rattle.listing_text.proofs.FileListing.{refusal-fits, refusal-written, opens-long, callouts-long, rota-accepted, rota-fits, rota-written}
 use Rattle.listing_text.proofs.write_listing.Statement.{statement}
 use Rattle.listing_text.proofs.write_listing.Tie as tie
 

@@ -13,8 +13,8 @@ use Rattle.model.specs.ListingText.{numberLine, refusedLine, lastLine, planLine
 use Rattle.rota.specs.declared.lister.Stepped.{Stepped}
 use Rattle.rota.specs.Step.{stepOf}
 use Rattle.listing_text.specs.Writing.{Wrote, fresh, firstStep, afterFirst}
-use Rattle.listing_text.proofs.Parts.{Begun, first-fits, after}
-use Rattle.listing_text.proofs.Listed.{own, next-plan, no-plan, all-listed}
+use Rattle.listing_text.proofs.Begun.{Begun, first-fits, after}
+use Rattle.listing_text.proofs.PlansGiven.{own, next-plan, no-plan, all-listed}
 
 -- "refused " and "rota "
 abbrev pub refused-word : List ℕ

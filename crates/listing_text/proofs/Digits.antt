@@ -7,7 +7,7 @@ use lib.ListN.{length, set, length-append}
 use Rattle.model.specs.ListingText.{decimal}
 use Rattle.model.proofs.Decimal.{decimal-one, decimal-more}
 use Rattle.listing_text.specs.Writing.{Wrote}
-use Rattle.listing_text.proofs.Parts.{Begun, begin, done, inside, byte, after}
+use Rattle.listing_text.proofs.Begun.{Begun, begin, done, inside, byte, after}
 
 module _ (x : ℕ) (out : List ℕ) (room : length (decimal x) ≤ length out) where
   module _ (one : x < 10) where

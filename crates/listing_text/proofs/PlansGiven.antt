@@ -24,7 +24,7 @@ use Rattle.model.proofs.Listing.{plans-listed}
 use Rattle.rota.specs.declared.lister.Stepped.{Stepped}
 use Rattle.rota.specs.Step.{stepOf}
 use Rattle.listing_text.specs.Writing.{Wrote, endOrMore, fresh, firstStep, afterFirst}
-use Rattle.listing_text.proofs.Parts.{Begun, tail, put, begin, fits, more}
+use Rattle.listing_text.proofs.Begun.{Begun, tail, put, begin, fits, more}
 
 -- ---- what is left to write after k plans
 
@@ -103,14 +103,14 @@ module _ (opens callouts : List ℕ) (ok : tableCode (length opens) (length open
       }
 
 -- the plan that a lister gives next, and the listing after it
-pub record Next (answer : Lister → PlanAnswer) (e : Lister) (rest : List (List ℕ)) : Type 0 where
+pub record NextPlan (answer : Lister → PlanAnswer) (e : Lister) (rest : List (List ℕ)) : Type 0 where
   pub plan : List ℕ
   pub others : List (List ℕ)
   pub first : rest ≡ plan ∷ others
   pub gives : answer e ≡ given plan 0
   pub listing : IsListing answer (stored e (answer e)) others
 
-pub next-plan : (answer : Lister → PlanAnswer) (e : Lister) (rest : List (List ℕ)) → IsListing answer e rest → answer e .code ≡ 0 → Next answer e rest
+pub next-plan : (answer : Lister → PlanAnswer) (e : Lister) (rest : List (List ℕ)) → IsListing answer e rest → answer e .code ≡ 0 → NextPlan answer e rest
 next-plan answer e [] l z = absurd (l z)
 next-plan answer e (p ∷ rest) l z = record { plan = p; others = rest; first = refl; gives = l .0; listing = l .1 }
 
@@ -140,7 +140,7 @@ module _ {opens callouts old page : List ℕ} {s : Stepped} {k at : ℕ} (g : Gi
       subst (λ l. Begun text l old page at) (ap (leftAfter callouts k) none ∙ left-end callouts k (s .answer .code) d (g .listed)) (g .begun)
 
   module _ (z : s .answer .code ≡ 0) where
-    next : Next (own opens callouts) (g .lister) (g .rest)
+    next : NextPlan (own opens callouts) (g .lister) (g .rest)
     next = next-plan (own opens callouts) (g .lister) (g .rest) (g .listing) (sym code-is ∙ z)
 
     -- after 1,000 plans, and one more

@@ -22,7 +22,7 @@ use Rattle.model.proofs.Files.{accepted-file}
 use Rattle.model.proofs.RoundTrips.{opens-read, callouts-read, opens-room, callouts-room}
 use Rattle.model.proofs.ListingLength.{listing-length}
 use Rattle.listing_text.specs.Writing.{Wrote}
-use Rattle.listing_text.proofs.Rotas.{refused-word, refused-is}
+use Rattle.listing_text.proofs.FirstSteps.{refused-word, refused-is}
 
 -- 64 words are enough for any file
 all-read : (file : List ℕ) → readCode Edition.One file 64 64 ≡ fileCode Edition.One file

@@ -8,7 +8,7 @@ use lib.Seq.{drop-cons}
 use Rattle.model.specs.Fewest.{calloutsOf}
 use Rattle.model.specs.ListingText.{decimal, numberLine, slotText, planLine}
 use Rattle.listing_text.specs.Writing.{Wrote}
-use Rattle.listing_text.proofs.Parts.{Begun, tail, put, begin, fits, more, first-fits, after}
+use Rattle.listing_text.proofs.Begun.{Begun, tail, put, begin, fits, more, first-fits, after}
 
 -- ---- a word and a number
 
@@ -30,14 +30,14 @@ module _ (j : ℕ) (out : List ℕ) (room : length (slotText j) ≤ length out) 
   slot-begun = begin room
 
 -- the slots of the items before i are written
-pub record Slots (plan old page : List ℕ) (at i : ℕ) : Type 0 where
+pub record SlotsBegun (plan old page : List ℕ) (at i : ℕ) : Type 0 where
   pub items : i ≤ length plan
   pub begun : Begun (flatMap slotText plan) (flatMap slotText (drop i plan)) old page at
 
-pub slots-none : (plan : List ℕ) {old : List ℕ} → length (flatMap slotText plan) ≤ length old → Slots plan old old 0 0
+pub slots-none : (plan : List ℕ) {old : List ℕ} → length (flatMap slotText plan) ≤ length old → SlotsBegun plan old old 0 0
 slots-none plan room = record { items = omega arith; begun = begin room }
 
-module _ {plan old page : List ℕ} {at i : ℕ} (s : Slots plan old page at i) where
+module _ {plan old page : List ℕ} {at i : ℕ} (s : SlotsBegun plan old page at i) where
   pub slots-done : length plan ≤ i → Begun (flatMap slotText plan) [] old page at
   unfolding flatMap
   slots-done h = rw (drop-of-length-le plan {i = i} h) at (s .begun)
@@ -50,7 +50,7 @@ module _ {plan old page : List ℕ} {at i : ℕ} (s : Slots plan old page at i) 
     pub slot-fits : length (slotText (getD plan i 0)) ≤ length (tail at page)
     slot-fits = fits (slotText (getD plan i 0)) (flatMap slotText (drop (suc i) plan)) slot-next
 
-    pub slots-more : {part : List ℕ} {k : ℕ} → Wrote (slotText (getD plan i 0)) (tail at page) part k → Slots plan old (put at page part) (at + k) (i + 1)
+    pub slots-more : {part : List ℕ} {k : ℕ} → Wrote (slotText (getD plan i 0)) (tail at page) part k → SlotsBegun plan old (put at page part) (at + k) (i + 1)
     slots-more w =
         record { items = omega arith; begun = rw add-one (more (slotText (getD plan i 0)) (flatMap slotText (drop (suc i) plan)) slot-next w) }
 
