@@ -127,5 +127,6 @@ pub wrote-within : {text old new : List ℕ} {r : ℕ} → Wrote text old new r 
 wrote-within {text} {old} {new} {r} w = omega (arith, w .size, ap length (w .bytes), length-append text (drop r old))
 
 -- a copy of bytes is such a part
-pub copy-wrote : (word : List ℕ) {old page : List ℕ} {r : ℕ} → r ≡ length word → page ≡ take (length word) word ++ drop (length word) old → Wrote word old page r
+pub copy-wrote : (word : List ℕ) {old page : List ℕ} {r : ℕ} → r ≡ length word → page ≡ take (length word) word ++ drop (length word) old
+    → Wrote word old page r
 copy-wrote word {old} n e = record { bytes = e ∙ ap₂ (λ w k. w ++ drop k old) (take-length word) (sym n); size = n }
