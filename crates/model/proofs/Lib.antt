@@ -14,6 +14,7 @@ pub mod Refusals
 pub mod Codes
 pub mod Slots
 pub mod Listing
+pub mod Decimal
 pub mod Ways
 pub mod Supports
 pub mod Subsets
@@ -22,3 +23,4 @@ pub mod Editions
 pub mod FileBlocks
 pub mod Files
 pub mod RoundTrips
+pub mod ListingLength

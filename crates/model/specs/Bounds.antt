@@ -1,15 +1,16 @@
--- The definitions at the bounds of document 01's rules, computed by antt. Assumes nothing.
+-- The definitions at the bounds of the rules (docs/RULES.md), computed by antt. Assumes nothing.
 use mathlib.Core.Path.{_≡_, refl}
 use mathlib.Core.Bool.{true, false}
 use mathlib.Core.List.{[], _∷_}
 use Prim.Native.Nat.{_^_, _-_}
-use lib.ListN.{replicate}
+use lib.ListN.{length, replicate}
 use Rattle.model.specs.declared.Edition.{Edition}
 use Rattle.model.specs.Rota.{tableCode}
 use Rattle.model.specs.Grade.{gradeOf, rate}
 use Rattle.model.specs.File.{blocksFor, fileCode}
 use Rattle.model.specs.Refusal.{fleetCode, roomCode}
 use Rattle.model.specs.CountAnswers.{countCode}
+use Rattle.model.specs.ListingText.{decimal, lastLine, listingOf}
 
 -- acceptance, and what count, grade and price add
 pub record Codes : Type 0 where
@@ -66,3 +67,19 @@ pub record Figures : Type 0 where
 pub figures : Figures
 unfolding gradeOf rate blocksFor
 figures = search refl
+
+-- numbers in a listing; its last line below, at and above the 1,000 plans that are listed; and 1,001 plans of no items, of which 1,000 lines of
+-- 7 to 10 bytes are written, between 7 bytes and 10
+pub record Lines : Type 0 where
+  pub nought : decimal 0 ≡ 48 ∷ []
+  pub one-digit : decimal 9 ≡ 57 ∷ []
+  pub two-digits : decimal 10 ≡ 49 ∷ 48 ∷ []
+  pub most-digits : decimal (2 ^ 64 - 1) ≡ 49 ∷ 56 ∷ 52 ∷ 52 ∷ 54 ∷ 55 ∷ 52 ∷ 52 ∷ 48 ∷ 55 ∷ 51 ∷ 55 ∷ 48 ∷ 57 ∷ 53 ∷ 53 ∷ 49 ∷ 54 ∷ 49 ∷ 53 ∷ []
+  pub plans-999 : lastLine 999 ≡ 101 ∷ 110 ∷ 100 ∷ 32 ∷ 57 ∷ 57 ∷ 57 ∷ 10 ∷ []
+  pub plans-1000 : lastLine 1000 ≡ 101 ∷ 110 ∷ 100 ∷ 32 ∷ 49 ∷ 48 ∷ 48 ∷ 48 ∷ 10 ∷ []
+  pub plans-1001 : lastLine 1001 ≡ 109 ∷ 111 ∷ 114 ∷ 101 ∷ 32 ∷ 49 ∷ 48 ∷ 48 ∷ 48 ∷ 10 ∷ []
+  pub listed-1000 : length (listingOf 1 [] (replicate 1001 [])) ≡ 8910
+
+pub lines : Lines
+unfolding decimal lastLine listingOf
+lines = search refl

@@ -1,3 +1,4 @@
+-- The rules of docs/RULES.md as definitions; the paper that they come from is called document 01. Assumes nothing.
 pub mod Lists
 pub mod Sets
 pub mod Rota
@@ -16,5 +17,6 @@ pub mod PriceAnswers
 pub mod FileAnswers
 pub mod Lister
 pub mod Listing
+pub mod ListingText
 pub mod Rows
 pub mod Bounds

@@ -1,4 +1,4 @@
--- The rows marked P of document 01, and T's file: one table of equations that antt computes. Assumes nothing.
+-- Worked rotas of docs/RULES.md, those that document 01 marks P, and T's file and listing: tables of equations that antt computes. Assumes nothing.
 use mathlib.Core.Path.{_≡_, refl}
 use mathlib.Core.List.{List, [], _∷_, _++_}
 use Prim.Native.Nat.{ℕ, _+_, _*_}
@@ -11,6 +11,7 @@ use Rattle.model.specs.File.{fileBytes, fileCode, itemsIn, opensIn, call
 use Rattle.model.specs.PlanAnswers.{firstAnswer, nextAnswer, fewestAnswer, given, refused, short, overCap}
 use Rattle.model.specs.CountAnswers.{countAnswer}
 use Rattle.model.specs.PriceAnswers.{gradeAnswer, priceAnswer}
+use Rattle.model.specs.ListingText.{listingText}
 
 abbrev T-opens : List ℕ
 T-opens = 3 ∷ 7 ∷ 6 ∷ []
@@ -69,6 +70,21 @@ pub record File : Type 0 where
 pub file : File
 unfolding fileBytes fileCode itemsIn opensIn calloutsIn
 file = search refl
+
+-- the listing of T's file, line by line; of a rota with no plan; of no bytes
+pub record Listings : Type 0 where
+  pub T-listing : listingText Edition.One (fileBytes Edition.One 3 3 T-opens T-callouts)
+      ≡ (114 ∷ 111 ∷ 116 ∷ 97 ∷ 32 ∷ 51 ∷ 10 ∷ [])
+      ++ (49 ∷ 58 ∷ 32 ∷ 48 ∷ 32 ∷ 49 ∷ 32 ∷ 50 ∷ 32 ∷ 47 ∷ 32 ∷ 50 ∷ 10 ∷ [])
+      ++ (50 ∷ 58 ∷ 32 ∷ 48 ∷ 32 ∷ 50 ∷ 32 ∷ 49 ∷ 32 ∷ 47 ∷ 32 ∷ 49 ∷ 10 ∷ [])
+      ++ (51 ∷ 58 ∷ 32 ∷ 49 ∷ 32 ∷ 48 ∷ 32 ∷ 50 ∷ 32 ∷ 47 ∷ 32 ∷ 49 ∷ 10 ∷ [])
+      ++ (101 ∷ 110 ∷ 100 ∷ 32 ∷ 51 ∷ 10 ∷ [])
+  pub no-plan : listingText Edition.One (fileBytes Edition.One 2 2 (0 ∷ 3 ∷ []) (none 2)) ≡ (114 ∷ 101 ∷ 102 ∷ 117 ∷ 115 ∷ 101 ∷ 100 ∷ 32 ∷ 57 ∷ 10 ∷ [])
+  pub no-bytes : listingText Edition.One [] ≡ (114 ∷ 101 ∷ 102 ∷ 117 ∷ 115 ∷ 101 ∷ 100 ∷ 32 ∷ 49 ∷ 50 ∷ 10 ∷ [])
+
+pub listings : Listings
+unfolding listingText fileBytes
+listings = search refl
 
 -- T's tally and its permanent
 pub T-tally : subsetCounts 3 T-opens ≡ 1 ∷ 1 ∷ 1 ∷ 2 ∷ 0 ∷ 1 ∷ 1 ∷ 3 ∷ []

@@ -1,127 +1,63 @@
-// Writes document 01's listing of a rota file to standard output.
+// Reads a rota file from a descriptor and writes its listing to standard output, whole. What fails is told on standard error.
 ghost use Prim.Native.Nat.{_≤_};
 ghost use lib.ListN.{length};
 use libc::STDOUT_FILENO;
-use model::Lister;
-use model::Plan;
-use rota::lister::Stepped;
 
-fn text(s: &[u8]) {
-    io::write_all(STDOUT_FILENO, s);
+// What was read: how many bytes, and whether no read failed.
+struct Got {
+    n: usize,
+    ok: bool,
 }
 
-fn number(x: u64) {
-    io::print_decimal(STDOUT_FILENO, x);
-}
-
-// A line that is a word and a number.
-fn line(word: &[u8], x: u64) {
-    text(word);
-    number(x);
-    text(b"\n");
-}
-
-fn slot(j: u8) {
-    text(b" ");
-    number(words::wide(j) as u64);
-}
-
-// A plan's slots, a space before each.
-fn slots(plan: &[u8]) {
-    let mut i = 0;
-    while i < plan.len() {
-        slot(plan[i]);
-        i += 1;
+// One read.
+fn read_once(fd: i32, part: &mut [u8]) -> Got
+    ensures { λ r. ⌜ r .n ≤ length (now (part .entry)) ⌝ }
+{
+    let got = libc::read(fd, part);
+    if got < 0 {
+        return Got { n: 0, ok: false };
+    }
+    Got {
+        n: io::count(got, part),
+        ok: true,
     }
 }
 
-// The line of plan k, for as many items as there are callout words.
-fn plan_line(k: u64, plan: [u8; 64], callouts: &[u64])
-    requires { ⌜ length (now callouts) ≤ 64 ⌝ }
+// Reads until the buffer is full, the input ends or a read fails.
+fn read_bytes(fd: i32, buffer: &mut [u8]) -> Got
+    ensures { λ r. ⌜ r .n ≤ length (now (buffer .entry)) ⌝ }
 {
-    number(k);
-    text(b":");
-    let n = callouts.len();
-    slots(&plan[..n]);
-    line(b" / ", plan::callouts_of(callouts, plan));
-}
-
-// The line of the plan that a step gave, and the step after it.
-fn list_one(k: u64, s: Stepped, opens: &[u64], callouts: &[u64]) -> Stepped
-    requires { ⌜ length (now callouts) ≤ 64 ⌝ }
-{
-    let a = s.answer;
-    let p = a.plan;
-    let slots = p.slots;
-    plan_line(k, slots, callouts);
-    let e = s.lister;
-    rota::lister::step(e, opens.len(), opens, callouts)
-}
-
-// The number of the refusal, or 0 where the step gave a plan.
-fn code_of(s: Stepped) -> u32 {
-    let a = s.answer;
-    a.code
-}
-
-// The last line, after k plans, by the code of the step after them.
-fn last_line(k: u64, code: u32) {
-    if code == 0 {
-        line(b"more ", k);
-    } else {
-        line(b"end ", k);
-    }
-}
-
-// The lines of the plans from the first on, 1,000 at most, and the last line.
-fn list_all(first: Stepped, opens: &[u64], callouts: &[u64])
-    requires { ⌜ length (now callouts) ≤ 64 ⌝ }
-{
-    let mut s = first;
-    let mut k = 0;
-    while k < 1000 {
-        if code_of(s) != 0 {
+    let mut n = 0;
+    while n < buffer.len() {
+        let got = read_once(fd, &mut buffer[n..]);
+        if !got.ok {
+            return Got { n, ok: false };
+        }
+        if got.n == 0 {
             break;
         }
-        k += 1;
-        s = list_one(k, s, opens, callouts);
+        n += got.n;
     }
-    last_line(k, code_of(s));
+    Got { n, ok: true }
 }
 
-fn refused(code: u32) {
-    line(b"refused ", code as u64);
-}
-
-// The listing of a rota. The first line waits for the first plan, since a refusal stands alone.
-fn list(opens: &[u64], callouts: &[u64])
-    requires { ⌜ length (now callouts) ≤ 64 ⌝ }
-{
-    let fresh = Lister {
-        started: false,
-        plan: Plan { slots: [0; 64] },
-    };
-    let first = rota::lister::step(fresh, opens.len(), opens, callouts);
-    let code = code_of(first);
-    if code != 0 {
-        refused(code);
-        return;
+// Writes the listing of some bytes as a file.
+fn show(file: &[u8]) {
+    let mut page = [0u8; listing_text::ROOM];
+    let n = listing_text::write_listing(file, &mut page);
+    if !io::write_all(STDOUT_FILENO, &page[..n]) {
+        os::fail(b"write");
     }
-    line(b"rota ", opens.len() as u64);
-    list_all(first, opens, callouts);
 }
 
 // The listing of the file at a descriptor. The buffer has one byte more than the longest file, so that a longer one is refused.
 pub fn show_fd(fd: i32) {
     let mut file = [0u8; 1537];
-    let got = io::read_full(fd, &mut file);
-    let mut opens = [0u64; 64];
-    let mut callouts = [0u64; 64];
-    let read = rota::files::rota_read_file(&file[..got], &mut opens, &mut callouts);
-    if read.code != 0 {
-        refused(read.code);
+    let got = read_bytes(fd, &mut file);
+    if !got.ok {
+        os::fail(b"read");
         return;
     }
-    let n = read.n as usize;
-    list(&opens[..n], &callouts[..n]);
+    let n = got.n;
+    show(&file[..n]);
 }
