@@ -12,7 +12,7 @@ use Rattle.model.specs.declared.Edition.{Edition}
 use Rattle.model.specs.Lists.{any}
 use Rattle.model.specs.File.{blocksIn, itemsIn, slotsIn, checkWrong, blocksLaid}
 use Rattle.model.proofs.Files.{blocks-count}
-use Rattle.file_blocks.specs.Blocks.{checkedAt, allChecked, joined}
+use Rattle.file_blocks.specs.Blocks.{checkedAt, allChecked, combined}
 use Rattle.file_blocks.specs.declared.reader.Checked.{Checked}
 use Rattle.file_blocks.proofs.OneBlock.{block-next}
 
@@ -26,10 +26,10 @@ pub record Checking (e : Edition) (file : List ℕ) : Type 0 where
   pub next : ℕ
   pub found : Checked
   pub within : next ≤ length file / 512
-  pub left : joined found (checkedFrom e file next) ≡ allChecked e file
+  pub left : combined found (checkedFrom e file next) ≡ allChecked e file
 
 module _ (e : Edition) (file : List ℕ) where
-  pub left-all : joined (record { wrong = false; laid = true }) (checkedFrom e file 0) ≡ allChecked e file
+  pub left-all : combined (record { wrong = false; laid = true }) (checkedFrom e file 0) ≡ allChecked e file
   unfolding allChecked
   left-all = refl
 
@@ -37,19 +37,19 @@ module _ (e : Edition) (file : List ℕ) where
   none-checked = record { next = 0; found = record { wrong = false; laid = true }; within = omega arith; left = left-all }
 
   -- block b, and those after it
-  from-next : (b : ℕ) → b < length file / 512 → checkedFrom e file b ≡ joined (checkedAt e file b) (checkedFrom e file (b + 1))
+  from-next : (b : ℕ) → b < length file / 512 → checkedFrom e file b ≡ combined (checkedAt e file b) (checkedFrom e file (b + 1))
   unfolding checkedAt any blocksLaid
   from-next b h = rw add-one (ap (λ l. record { wrong = any (checkWrong e) l; laid = blocksLaid e (itemsIn file) (slotsIn e file) b l }) (block-next file b h))
 
-  joined-assoc : (a b c : Checked) → joined (joined a b) c ≡ joined a (joined b c)
-  joined-assoc a b c = ap₂ (λ x y. record { wrong = x; laid = y }) (or-assoc (a .wrong) (b .wrong) (c .wrong)) (and-assoc (a .laid) (b .laid) (c .laid))
+  combined-assoc : (a b c : Checked) → combined (combined a b) c ≡ combined a (combined b c)
+  combined-assoc a b c = ap₂ (λ x y. record { wrong = x; laid = y }) (or-assoc (a .wrong) (b .wrong) (c .wrong)) (and-assoc (a .laid) (b .laid) (c .laid))
 
   pub left-more : (t : Checking e file) → t .next < length file / 512
-      → joined (joined (t .found) (checkedAt e file (t .next))) (checkedFrom e file (t .next + 1)) ≡ allChecked e file
-  left-more t h = joined-assoc (t .found) _ _ ∙ sym (ap (joined (t .found)) (from-next (t .next) h)) ∙ t .left
+      → combined (combined (t .found) (checkedAt e file (t .next))) (checkedFrom e file (t .next + 1)) ≡ allChecked e file
+  left-more t h = combined-assoc (t .found) _ _ ∙ sym (ap (combined (t .found)) (from-next (t .next) h)) ∙ t .left
 
   abbrev pub one-more : (t : Checking e file) → t .next < length file / 512 → Checking e file
-  one-more t h = record { next = t .next + 1; found = joined (t .found) (checkedAt e file (t .next)); within = omega arith; left = left-more t h }
+  one-more t h = record { next = t .next + 1; found = combined (t .found) (checkedAt e file (t .next)); within = omega arith; left = left-more t h }
 
   pub all-checked : (t : Checking e file) → length file / 512 ≤ t .next → t .found ≡ allChecked e file
   unfolding any blocksLaid

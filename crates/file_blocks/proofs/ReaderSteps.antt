@@ -137,11 +137,11 @@ module _ {M : Type 1} {𝓤 : URA M} {H : Heap 𝓤} {A : Atoms 𝓤} {K : Type 
   frees-full t = step (λ k. forget t 0 refl $ free1 t $ k)
 
 -- the locals of a walk, each with what it holds
-abbrev pub cells : {M : Type 1} (𝓤 : URA M) (H : Heap 𝓤) → Env 𝓤 H → List (Option Val) → List (Item 𝓤)
-cells 𝓤 H [] vs = []
-cells 𝓤 H (l ∷ ls) [] = []
-cells 𝓤 H (l ∷ ls) (none ∷ vs) = ‵ (froom (l .0) (l .1) 0) ∷ ‵ (fdies (l .0) (l .1)) ∷ cells 𝓤 H ls vs
-cells 𝓤 H (l ∷ ls) (some v ∷ vs) = ‵ (fat fullShare (l .0) (l .1) 0 v) ∷ ‵ (fdies (l .0) (l .1)) ∷ cells 𝓤 H ls vs
+abbrev pub locals : {M : Type 1} (𝓤 : URA M) (H : Heap 𝓤) → Env 𝓤 H → List (Option Val) → List (Item 𝓤)
+locals 𝓤 H [] vs = []
+locals 𝓤 H (l ∷ ls) [] = []
+locals 𝓤 H (l ∷ ls) (none ∷ vs) = ‵ (froom (l .0) (l .1) 0) ∷ ‵ (fdies (l .0) (l .1)) ∷ locals 𝓤 H ls vs
+locals 𝓤 H (l ∷ ls) (some v ∷ vs) = ‵ (fat fullShare (l .0) (l .1) 0 v) ∷ ‵ (fdies (l .0) (l .1)) ∷ locals 𝓤 H ls vs
 
 -- the test of a `while`
 module _ {M : Type 1} {𝓤 : URA M} {H : Heap 𝓤} {A : Atoms 𝓤} {K : Type 0} {W : Given 𝓤 H A} {Γ : List (Item 𝓤)} where

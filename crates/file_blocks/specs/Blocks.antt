@@ -19,5 +19,5 @@ unfoldable pub allChecked : Edition → List ℕ → Checked
 allChecked e file = record { wrong = any (checkWrong e) (blocksIn file); laid = blocksLaid e (itemsIn file) (slotsIn e file) 0 (blocksIn file) }
 
 -- of some blocks and of others
-abbrev pub joined : Checked → Checked → Checked
-joined a b = record { wrong = a .wrong || b .wrong; laid = a .laid && b .laid }
+abbrev pub combined : Checked → Checked → Checked
+combined a b = record { wrong = a .wrong || b .wrong; laid = a .laid && b .laid }

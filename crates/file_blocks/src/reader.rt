@@ -2,7 +2,7 @@
 ghost use mathlib.Core.Path.{_≡_};
 ghost use Prim.Native.Nat.{_+_, _/_, _<_, _^_};
 ghost use lib.ListN.{length};
-ghost use Rattle.file_blocks.specs.Blocks.{joined, checkedAt, allChecked};
+ghost use Rattle.file_blocks.specs.Blocks.{combined, checkedAt, allChecked};
 use crate::checks;
 use file_layout::editions;
 use model::Edition;
@@ -18,10 +18,10 @@ pub struct Checked {
     pub laid: bool,
 }
 
-// The tests of block b, joined with what was found before.
+// The tests of block b, combined with what was found before.
 pub fn check_at(edition: Edition, file: &[u8], b: usize, before: Checked) -> Checked
     requires { ⌜ b < length (now file) / 512 ⌝ }
-    ensures { λ r. ⌜ r ≡ joined before (checkedAt edition (now (file .entry)) b) ⌝ }
+    ensures { λ r. ⌜ r ≡ combined before (checkedAt edition (now (file .entry)) b) ⌝ }
 {
     let m = editions::slots_in(edition, file);
     let at = 512 * b;
@@ -41,10 +41,10 @@ pub fn start<'a>(file: &'a [u8]) -> BlockReader<'a>
     BlockReader { file, next: 0 }
 }
 
-// The tests of the reader's next block, joined with what was found before.
+// The tests of the reader's next block, combined with what was found before.
 pub fn check<'a>(edition: Edition, r: BlockReader<'a>, before: Checked) -> Checked
     requires { ⌜ r .next < length (now (r .file)) / 512 ⌝ }
-    ensures { λ c. ⌜ c ≡ joined before (checkedAt edition (now (r .entry .file)) (r .entry .next)) ⌝ }
+    ensures { λ c. ⌜ c ≡ combined before (checkedAt edition (now (r .entry .file)) (r .entry .next)) ⌝ }
 {
     check_at(edition, r.file, r.next, before)
 }

@@ -139,7 +139,7 @@ block-length e n m b opens callouts both few =
     length-append bytes (lowBytes 2 (checkOf e bytes)) ∙ ap₂ _+_ (body-length e n m b opens callouts both few) (low-length 2 (checkOf e bytes))
 
 -- k blocks, of which those before number b are written
-pub record Blocks (e : Edition) (n m : ℕ) (opens callouts : List ℕ) (k : ℕ) (file : List ℕ) (b : ℕ) : Type 0 where
+pub record BlocksWritten (e : Edition) (n m : ℕ) (opens callouts : List ℕ) (k : ℕ) (file : List ℕ) (b : ℕ) : Type 0 where
   pub few : n ≤ 64
   pub open-words : length opens ≡ n
   pub callout-words : length callouts ≡ n
@@ -150,7 +150,7 @@ pub record Blocks (e : Edition) (n m : ℕ) (opens callouts : List ℕ) (k : ℕ
 
 module _ {e : Edition} {n m : ℕ} {opens callouts : List ℕ} {k : ℕ} {file : List ℕ} where
   pub blocks-none : n ≤ 64 → length opens ≡ n → length callouts ≡ n → k ≡ blocksFor n → length file ≡ 512 * blocksFor n
-      → Blocks e n m opens callouts k file 0
+      → BlocksWritten e n m opens callouts k file 0
   unfolding fileBytes
   blocks-none few lo lc count size =
       let q : k - 0 ≡ blocksFor n = omega arith in
@@ -164,7 +164,7 @@ module _ {e : Edition} {n m : ℕ} {opens callouts : List ℕ} {k : ℕ} {file :
         written = sym (ap (λ j. flatten (blocks e n m 0 j opens callouts)) q);
       }
 
-  module _ {b : ℕ} (w : Blocks e n m opens callouts k file b) where
+  module _ {b : ℕ} (w : BlocksWritten e n m opens callouts k file b) where
     pub blocks-done : k ≤ b → file ≡ fileBytes e n m opens callouts
     unfolding blocks flatten
     blocks-done h =
@@ -190,7 +190,7 @@ module _ {e : Edition} {n m : ℕ} {opens callouts : List ℕ} {k : ℕ} {file :
 
       pub blocks-more : {y : List ℕ}
           → y ≡ checked e (body e n m b (take (31 * b + j - 31 * b) (drop (31 * b) opens)) (take (31 * b + j - 31 * b) (drop (31 * b) callouts)))
-          → Blocks e n m opens callouts k (put (512 * b) (512 * b + 512 - 512 * b) file y) (b + 1)
+          → BlocksWritten e n m opens callouts k (put (512 * b) (512 * b + 512 - 512 * b) file y) (b + 1)
       unfolding blocks flatten
       blocks-more {y} made =
           let size : 512 * b + 512 - 512 * b ≡ 512 = omega arith in

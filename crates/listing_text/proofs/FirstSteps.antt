@@ -14,7 +14,7 @@ use Rattle.rota.specs.declared.lister.Stepped.{Stepped}
 use Rattle.rota.specs.Step.{stepOf}
 use Rattle.listing_text.specs.Writing.{Wrote, fresh, firstStep, afterFirst}
 use Rattle.listing_text.proofs.Begun.{Begun, first-fits, after}
-use Rattle.listing_text.proofs.PlansGiven.{own, next-plan, no-plan, all-listed}
+use Rattle.listing_text.proofs.PlansGiven.{answerOf, next-plan, no-plan, all-listed}
 
 -- "refused " and "rota "
 abbrev pub refused-word : List ℕ
@@ -40,20 +40,20 @@ module _ (opens callouts : List ℕ) (ok : tableCode (length opens) (length open
   abbrev all : List (List ℕ)
   all = plans (length opens) opens
 
-  none-code : all ≡ [] → own opens callouts fresh .code ≡ 9
+  none-code : all ≡ [] → answerOf opens callouts fresh .code ≡ 9
   unfolding listerAnswer firstAnswer firstFrom unless firstOf noPlan
   none-code e =
       ap (λ c. unless refused c (firstFrom (length opens) opens) .code) ok ∙ ap (λ l. firstOf opens l .code) e
 
   module _ {s : Stepped} (q : s ≡ firstStep opens callouts) {code : ℕ} (is : code ≡ s .answer .code) where
-    code-is : code ≡ own opens callouts fresh .code
+    code-is : code ≡ answerOf opens callouts fresh .code
     unfolding stepOf
     code-is = is ∙ ap (λ (x : Stepped). x .answer .code) q
 
     module _ (d : code ≢ 0) where
       refused-text : listingOf (length opens) callouts all ≡ numberLine refused-word code
       refused-text =
-          let none = no-plan (own opens callouts) fresh all (all-listed opens callouts ok) (λ z. d (code-is ∙ z)) in
+          let none = no-plan (answerOf opens callouts) fresh all (all-listed opens callouts ok) (λ z. d (code-is ∙ z)) in
           ap (listingOf (length opens) callouts) none ∙ listing-none (length opens) callouts ∙ refused-is 9
           ∙ ap (numberLine refused-word) (sym (code-is ∙ none-code none))
 
@@ -67,7 +67,7 @@ module _ (opens callouts : List ℕ) (ok : tableCode (length opens) (length open
     module _ (z : code ≡ 0) (out : List ℕ) (room : length (listingOf (length opens) callouts all) ≤ length out) where
       rota-text : listingOf (length opens) callouts all ≡ numberLine rota-word (length opens) ++ afterFirst opens callouts
       rota-text =
-          let next = next-plan (own opens callouts) fresh all (all-listed opens callouts ok) (sym code-is ∙ z) in
+          let next = next-plan (answerOf opens callouts) fresh all (all-listed opens callouts ok) (sym code-is ∙ z) in
           ap (listingOf (length opens) callouts) (next .first) ∙ listing-some (length opens) callouts (next .plan) (next .others)
           ∙ ap (λ l. numberLine rota-word (length opens) ++ (planLines callouts 1 (take 1000 l) ++ lastLine (length l))) (sym (next .first))
 

@@ -60,14 +60,14 @@ module _ {plan old page : List ℕ} {at i : ℕ} (s : SlotsBegun plan old page a
 abbrev pub slash : List ℕ
 slash = 32 ∷ 47 ∷ 32 ∷ []
 
-abbrev pub cells : List ℕ → List ℕ → List ℕ
-cells callouts p = flatMap slotText (take (length callouts) p) ++ numberLine slash (calloutsOf callouts p)
+abbrev pub slotsAndCallouts : List ℕ → List ℕ → List ℕ
+slotsAndCallouts callouts p = flatMap slotText (take (length callouts) p) ++ numberLine slash (calloutsOf callouts p)
 
 module _ (callouts : List ℕ) (k : ℕ) (p out : List ℕ) (room : length (planLine callouts k p) ≤ length out) where
   pub position-fits : length (decimal k) ≤ length out
   unfolding planLine
-  position-fits = first-fits (decimal k) (58 ∷ cells callouts p) out room
+  position-fits = first-fits (decimal k) (58 ∷ slotsAndCallouts callouts p) out room
 
-  pub position-written : {page : List ℕ} {a : ℕ} → Wrote (decimal k) out page a → Begun (planLine callouts k p) (58 ∷ cells callouts p) out page a
+  pub position-written : {page : List ℕ} {a : ℕ} → Wrote (decimal k) out page a → Begun (planLine callouts k p) (58 ∷ slotsAndCallouts callouts p) out page a
   unfolding planLine
-  position-written = after (decimal k) (58 ∷ cells callouts p) out room
+  position-written = after (decimal k) (58 ∷ slotsAndCallouts callouts p) out room

@@ -72,8 +72,8 @@ module _ (callouts : List ℕ) (k : ℕ) where
 
 -- ---- the lister has given k plans
 
-abbrev pub own : List ℕ → List ℕ → Lister → PlanAnswer
-own opens callouts e = listerAnswer e (length opens) (length opens) opens callouts
+abbrev pub answerOf : List ℕ → List ℕ → Lister → PlanAnswer
+answerOf opens callouts e = listerAnswer e (length opens) (length opens) opens callouts
 
 -- s is the step after k plans, and what they write is written
 pub record Given (opens callouts old page : List ℕ) (s : Stepped) (k at : ℕ) : Type 0 where
@@ -81,12 +81,12 @@ pub record Given (opens callouts old page : List ℕ) (s : Stepped) (k at : ℕ)
   pub lister : Lister
   pub rest : List (List ℕ)
   pub step : s ≡ stepOf lister (length opens) (length opens) opens callouts
-  pub listing : IsListing (own opens callouts) lister rest
+  pub listing : IsListing (answerOf opens callouts) lister rest
   pub begun : Begun (afterFirst opens callouts) (leftAfter callouts k rest) old page at
 
 module _ (opens callouts : List ℕ) (ok : tableCode (length opens) (length opens) opens callouts ≡ 0) where
   -- a fresh lister lists all plans
-  pub all-listed : IsListing (own opens callouts) fresh (plans (length opens) opens)
+  pub all-listed : IsListing (answerOf opens callouts) fresh (plans (length opens) opens)
   all-listed = plans-listed (length opens) (length opens) opens callouts ok .listing fresh refl (plans (length opens) opens) .1 refl
 
   pub given-none : {old : List ℕ} → length (afterFirst opens callouts) ≤ length old → {s : Stepped} → s ≡ firstStep opens callouts
@@ -122,26 +122,26 @@ module _ {opens callouts old page : List ℕ} {s : Stepped} {k at : ℕ} (g : Gi
   abbrev text : List ℕ
   text = afterFirst opens callouts
 
-  answer-is : s .answer ≡ own opens callouts (g .lister)
+  answer-is : s .answer ≡ answerOf opens callouts (g .lister)
   unfolding stepOf
   answer-is = ap (λ (x : Stepped). x .answer) (g .step)
 
-  lister-is : s .lister ≡ stored (g .lister) (own opens callouts (g .lister))
+  lister-is : s .lister ≡ stored (g .lister) (answerOf opens callouts (g .lister))
   unfolding stepOf listerAfter
   lister-is = ap (λ (x : Stepped). x .lister) (g .step)
 
-  code-is : s .answer .code ≡ own opens callouts (g .lister) .code
+  code-is : s .answer .code ≡ answerOf opens callouts (g .lister) .code
   code-is = ap (λ a. a .code) answer-is
 
   -- the step was refused: no plan is left
   pub given-end : s .answer .code ≢ 0 → Begun text (endOrMore k (s .answer .code)) old page at
   given-end d =
-      let none = no-plan (own opens callouts) (g .lister) (g .rest) (g .listing) (λ z. d (code-is ∙ z)) in
+      let none = no-plan (answerOf opens callouts) (g .lister) (g .rest) (g .listing) (λ z. d (code-is ∙ z)) in
       subst (λ l. Begun text l old page at) (ap (leftAfter callouts k) none ∙ left-end callouts k (s .answer .code) d (g .listed)) (g .begun)
 
   module _ (z : s .answer .code ≡ 0) where
-    next : NextPlan (own opens callouts) (g .lister) (g .rest)
-    next = next-plan (own opens callouts) (g .lister) (g .rest) (g .listing) (sym code-is ∙ z)
+    next : NextPlan (answerOf opens callouts) (g .lister) (g .rest)
+    next = next-plan (answerOf opens callouts) (g .lister) (g .rest) (g .listing) (sym code-is ∙ z)
 
     -- after 1,000 plans, and one more
     pub given-over : k ≡ 1000 → Begun text (endOrMore k (s .answer .code)) old page at
@@ -177,7 +177,7 @@ module _ {opens callouts old page : List ℕ} {s : Stepped} {k at : ℕ} (g : Gi
             lister = s .lister;
             rest = next .others;
             step = q′;
-            listing = subst (λ e. IsListing (own opens callouts) e (next .others)) (sym lister-is) (next .listing);
+            listing = subst (λ e. IsListing (answerOf opens callouts) e (next .others)) (sym lister-is) (next .listing);
             begun = rw add-one (line-written w);
           }
 

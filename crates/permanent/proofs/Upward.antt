@@ -33,7 +33,7 @@ pub record Upward (m : ℕ) (opens old counts : List ℕ) (end s plans : ℕ) : 
   pub summed : plans ≡ sum (complete m opens) s
 
 -- a turn writes `ways` and adds to `plans`; 20! is the bound
-pub record Turn (m : ℕ) (opens old counts : List ℕ) (end s plans ways added : ℕ) : Type 0 where
+pub record UpwardTurn (m : ℕ) (opens old counts : List ℕ) (end s plans ways added : ℕ) : Type 0 where
   pub fits : plans + added ≤ 2432902008176640000
   pub next : Upward m opens old (set counts s ways) end (s + 1) (plans + added)
 
@@ -112,7 +112,7 @@ module _ {m : ℕ} {opens old counts : List ℕ} {end s plans : ℕ} (u : Upward
     room e q = (omega (arith, below), omega (arith, word e q, subset-fits m opens (u .sizes .0) s (omega (arith, u .last))))
 
     pub turn : {k w ways added : ℕ} → k ≡ ones s → w ≡ getD opens (k - 1) 0 → ways ≡ served w counts s → added ≡ cond (eqb k (length opens)) ways 0
-        → Turn m opens old counts end s plans ways added
+        → UpwardTurn m opens old counts end s plans ways added
     turn {ways = ways} e q v a =
         let inside : s < 2 ^ m = omega (arith, u .last) in
         let is-word : ways ≡ subsetCount m opens s = v ∙ word e q in

@@ -42,15 +42,15 @@ module _ {A : Type 0} (number : A → ℕ) (answer : A) (values tally : List ℕ
   filled z f q = (q, f ∙ ap (λ c. written c values tally) (sym z ∙ ap number q))
 
 -- what an answer with a plan, or with 9, says of the number of plans
-pub record Says (m : ℕ) (opens : List ℕ) (a : PlanAnswer) : Type 0 where
+pub record TellsCount (m : ℕ) (opens : List ℕ) (a : PlanAnswer) : Type 0 where
   pub none : a .code ≢ 0 → (a ≡ noPlan opens) × (count m opens ≡ 0)
   pub some : a .code ≡ 0 → 0 < count m opens
 
-first-says : (m : ℕ) (opens : List ℕ) (a : PlanAnswer) → a ≡ firstFrom m opens → Says m opens a
+first-says : (m : ℕ) (opens : List ℕ) (a : PlanAnswer) → a ≡ firstFrom m opens → TellsCount m opens a
 unfolding firstFrom count firstOf noPlan
 first-says m opens a ea = go (plans m opens) refl ea
   where
-    go : (l : List (List ℕ)) → plans m opens ≡ l → a ≡ firstOf opens l → Says m opens a
+    go : (l : List (List ℕ)) → plans m opens ≡ l → a ≡ firstOf opens l → TellsCount m opens a
     go [] q e = record { none = λ d. (e, ap length q); some = λ z. absurd (omega (arith, sym (ap (λ (x : PlanAnswer). x .code) e) ∙ z)) }
     go (p ∷ l) q e = record { none = λ d. absurd (d (ap (λ (x : PlanAnswer). x .code) e)); some = λ z. omega (arith, ap length q) }
 
@@ -82,7 +82,7 @@ unfolding gradeAnswer gradeTally
 grade-refused n m opens callouts tally c e d = kept (λ (x : GradeAnswer). x .code) _ _ tally d (refused-answer c _ d (sym e) gradeRefused _)
 
 module _ {n m : ℕ} {opens callouts tally : List ℕ} (able : Countable n m opens callouts tally) {a : PlanAnswer} (ea : a ≡ firstFrom 64 opens) where
-  says : Says m opens a
+  says : TellsCount m opens a
   says = first-says m opens a (ea ∙ first-wide n m opens callouts (able .passed .code) (able .passed .slots))
 
   graded : gradeBy opens (count m opens) ≡ gradeAnswer n m opens callouts (length tally)

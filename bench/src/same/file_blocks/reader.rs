@@ -16,7 +16,7 @@ pub struct Checked {
     pub laid: bool,
 }
 
-// The tests of block b, joined with what was found before.
+// The tests of block b, combined with what was found before.
 pub fn check_at(edition: Edition, file: &[u8], b: usize, before: Checked) -> Checked {
     let m = editions::slots_in(edition, file);
     let at = 512 * b;
@@ -31,7 +31,7 @@ pub fn start<'a>(file: &'a [u8]) -> BlockReader<'a> {
     BlockReader { file, next: 0 }
 }
 
-// The tests of the reader's next block, joined with what was found before.
+// The tests of the reader's next block, combined with what was found before.
 pub fn check<'a>(edition: Edition, r: BlockReader<'a>, before: Checked) -> Checked {
     check_at(edition, r.file, r.next, before)
 }

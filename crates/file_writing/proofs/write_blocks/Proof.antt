@@ -2,12 +2,12 @@
 use native.Mathlib.Omega.{arith}
 use Prim.Native.Nat.{_-_}
 use lib.ListN.{length-take, length-drop}
-use Rattle.file_writing.proofs.WrittenBytes.{Blocks, blocks-none, last-item, blocks-more, blocks-done}
+use Rattle.file_writing.proofs.WrittenBytes.{BlocksWritten, blocks-none, last-item, blocks-more, blocks-done}
 use Rattle.file_writing.proofs.write_blocks.Statement.{statement}
 use Rattle.file_writing.proofs.write_blocks.Tie as tie
 
 abbrev Inv-loop : tie.InvT-loop
-Inv-loop edition n m opens callouts file₀ k b₀ file b = Blocks edition n m opens callouts k file b
+Inv-loop edition n m opens callouts file₀ k b₀ file b = BlocksWritten edition n m opens callouts k file b
 
 abbrev μ-loop : tie.MeasureT-loop
 μ-loop edition n m opens callouts file₀ k b₀ file b = k - b

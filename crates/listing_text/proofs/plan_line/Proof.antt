@@ -10,7 +10,7 @@ use Rattle.plan.proofs.callouts_of.Reads as callouts-of
 use Rattle.model.specs.Fewest.{calloutsOf}
 use Rattle.model.specs.ListingText.{numberLine, slotText, planLine}
 use Rattle.listing_text.proofs.Begun.{Begun, put, fits, more, fits-last, last, inside, byte, done}
-use Rattle.listing_text.proofs.LineParts.{slash, cells, position-fits, position-written}
+use Rattle.listing_text.proofs.LineParts.{slash, slotsAndCallouts, position-fits, position-written}
 use Rattle.listing_text.proofs.number.Reads as number
 use Rattle.listing_text.proofs.slots.Reads as slots
 use Rattle.listing_text.proofs.number_line.Reads as number-line
@@ -28,7 +28,7 @@ number-requires c κs =
     position-fits (start .args .callouts .now) (start .args .k) (start .args .t3) (start .args .out .now) (start .pre .1)
 
 position : (c : lts.After-number claims Pre Post) → let a = c .before .before .before .before .args in
-    Begun (planLine (a .callouts .now) (a .k) (a .t3)) (58 ∷ cells (a .callouts .now) (a .t3)) (a .out .now) (c .number .last .1 .0) (c .number .result)
+    Begun (planLine (a .callouts .now) (a .k) (a .t3)) (58 ∷ slotsAndCallouts (a .callouts .now) (a .t3)) (a .out .now) (c .number .last .1 .0) (c .number .result)
 position c =
     let start = c .before .before .before .before in
     position-written (start .args .callouts .now) (start .args .k) (start .args .t3) (start .args .out .now) (start .pre .1) (c .number .ensures)

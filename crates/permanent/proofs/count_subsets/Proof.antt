@@ -4,7 +4,7 @@ use native.Mathlib.Omega.{arith}
 use borrow.Author.Needs.{needs}
 use lib.ListN.{set, length-set}
 use lib.Pow.{pow-pos}
-use Rattle.permanent.proofs.Upward.{Upward, Turn, upward-start, length-counts, below, sized, room, turn, upward-end}
+use Rattle.permanent.proofs.Upward.{Upward, UpwardTurn, upward-start, length-counts, below, sized, room, turn, upward-end}
 use Rattle.permanent.proofs.count_subsets.Statement.{statement}
 use Rattle.permanent.proofs.count_subsets.Tie as tie
 
@@ -20,7 +20,7 @@ at-loop c = c .before .before .before
 
 turned : (c : tie.After-complete2 Inv-loop μ-loop)
     → let at-word = c .before .before .before in let head = at-loop at-word in let args = head .before .before .before .before .before .args in
-    Turn (args .m) (args .opens .now) (set (args .counts .now) 0 1) (head .loop .counts) (head .before .before .single .result) (head .loop .set)
+    UpwardTurn (args .m) (args .opens .now) (set (args .counts .now) 0 1) (head .loop .counts) (head .before .before .single .result) (head .loop .set)
     (head .loop .plans) (c .before .subset-count .result) (c .complete2 .result)
 turned c =
     let at-word = c .before .before .before in

@@ -38,7 +38,7 @@ use denote.Exit.{yes}
 use Rattle.model.specs.declared.Edition.{Edition}
 use Rattle.model.proofs.Edition as E
 use Rattle.model.proofs.Edition.Laws as E′
-use Rattle.file_blocks.specs.Blocks.{checkedAt, joined}
+use Rattle.file_blocks.specs.Blocks.{checkedAt, combined}
 use Rattle.file_blocks.specs.declared.reader.BlockReader.{BlockReader}
 use Rattle.file_blocks.specs.declared.reader.Checked.{Checked}
 use Rattle.file_blocks.proofs.ReaderSteps.{token, D, L, B, file-val, file-own, edition-val, IsEdition, edition-typed, asked, checked-own, beside}
@@ -71,7 +71,7 @@ module _ {M : Type 1} (𝓤 : URA M) (H : Heap 𝓤) (A : Atoms 𝓤) (W : Given
   mach = T′.lowered d
 
   abbrev found : Checked
-  found = joined c (checkedAt e (now (d .file)) (d .next))
+  found = combined c (checkedAt e (now (d .file)) (d .next))
 
   -- what the function is passed, and what it passes on
   abbrev args : Args f.signature (κ, tt)

@@ -1,7 +1,7 @@
 -- `reader::check_at` meets its contract. Assumes nothing.
 use borrow.Author.Needs.{needs}
 use mathlib.Core.Path.{ap}
-use Rattle.file_blocks.specs.Blocks.{joined}
+use Rattle.file_blocks.specs.Blocks.{combined}
 use Rattle.file_blocks.proofs.OneBlock.{checked-block}
 use Rattle.file_blocks.proofs.reader.check_at.Statement.{statement}
 use Rattle.file_blocks.proofs.reader.check_at.Tie as tie
@@ -11,7 +11,7 @@ returns c =
     let found = c .before .before in
     let at-slots = found .before .before .before .before in
     let start = at-slots .before .before in
-    ap (joined (start .args .before)) (checked-block (start .args .file .now) (start .args .b) _ _ (at-slots .slots-in .ensures) _ _
+    ap (combined (start .args .before)) (checked-block (start .args .file .now) (start .args .b) _ _ (at-slots .slots-in .ensures) _ _
     (found .before .before .check-wrong .ensures) (found .block-laid .ensures))
 
 pub check-at-spec : {M : Type 1} → statement M

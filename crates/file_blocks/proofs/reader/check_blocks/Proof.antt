@@ -45,11 +45,11 @@ use denote.Exit.{yes}
 use Rattle.model.specs.declared.Edition.{Edition}
 use Rattle.model.proofs.Edition as E
 use Rattle.model.proofs.Edition.Laws as E′
-use Rattle.file_blocks.specs.Blocks.{checkedAt, allChecked, joined}
+use Rattle.file_blocks.specs.Blocks.{checkedAt, allChecked, combined}
 use Rattle.file_blocks.specs.declared.reader.Checked.{Checked}
 use Rattle.file_blocks.proofs.Checking.{Checking, none-checked, one-more, all-checked, Nearer, nearer-wf, comes-nearer}
 use Rattle.file_blocks.proofs.ReaderSteps.{token, D, L, file-val, file-own, reader-at, reader-is, edition-val, IsEdition, edition-typed, asked, unasked}
-use Rattle.file_blocks.proofs.ReaderSteps.{beside, checked-own, with-edition, with-checked, file-twice, reader-shuts, frees-full, cells, tests, local}
+use Rattle.file_blocks.proofs.ReaderSteps.{beside, checked-own, with-edition, with-checked, file-twice, reader-shuts, frees-full, locals, tests, local}
 use Rattle.file_blocks.proofs.ReaderSteps.{var, here, returned, returned-last}
 use Rattle.file_blocks.proofs.reader.BlockReader.Laws as T′
 use Rattle.file_blocks.proofs.reader.Checked as S
@@ -149,10 +149,10 @@ module _ {M : Type 1} (𝓤 : URA M) (H : Heap 𝓤) (A : Atoms 𝓤) (W : Given
 
     checks : K → {rest : Body} (n : ℕ) → n < 2 ^ 64 → n < k → (c : Checked)
         → Opds K W (raw (Check 𝓤 H A mem run .pre (to-check n c)) ∷ ‵ (file-own κ s) ∷ Γ) E xs (edition-val e ∷ at n ∷ S′.lowered c ∷ [])
-        → Step K W (token κ q ∷ ‵ (file-own κ s) ∷ Γ) (lands (𝓣 .C) (𝓣 .Λ) E d (S′.lowered (joined c (checkedAt e (now s) n))) rest p)
+        → Step K W (token κ q ∷ ‵ (file-own κ s) ∷ Γ) (lands (𝓣 .C) (𝓣 .Λ) E d (S′.lowered (combined c (checkedAt e (now s) n))) rest p)
         (token κ q ∷ ‵ (file-own κ s) ∷ Γ) (runs (𝓣 .C) (𝓣 .Λ) E (seq (call #reader·check xs d) rest) p)
     checks t n ok there c os =
-        let found = joined c (checkedAt e (now s) n) in
+        let found = combined c (checkedAt e (now s) n) in
         step (λ go. move t (1 ∷ []) $ file-twice t κ s $ reader-shuts t κ s n ok $ nothing t $ with-checked t c $ beside t $ with-edition t e is-e $
         move t (2 ∷ 0 ∷ []) $ use2 W (raw (Check 𝓤 H A mem run .pre (to-check n c))) (asked 𝓤 _ _ there) $
         calls-at t (fmOf 𝓤 H (W .laws) 𝓣) (Check 𝓤 H A mem run) (known .check-met) (to-check n c) os
@@ -178,7 +178,7 @@ module _ {M : Type 1} (𝓤 : URA M) (H : Heap 𝓤) (A : Atoms 𝓤) (W : Given
 
     -- the invariant. Local i is entry 2 + 2 · i
     abbrev At : State → List (Item 𝓤)
-    At t = token κ q ∷ ‵ (file-own κ s) ∷ cells 𝓤 H En (none ∷ some (edition-val e) ∷ some (file-val s) ∷ some (vint w64 k) ∷ some (at (t .next))
+    At t = token κ q ∷ ‵ (file-own κ s) ∷ locals 𝓤 H En (none ∷ some (edition-val e) ∷ some (file-val s) ∷ some (vint w64 k) ∷ some (at (t .next))
         ∷ some (S′.lowered (t .found)) ∷ some (vint w64 (length (now s))) ∷ none ∷ none ∷ none ∷ none ∷ [])
 
     -- after a turn: the reader is nearer to the end, or the loop is left and the rest of the body runs
@@ -214,7 +214,7 @@ module _ {M : Type 1} (𝓤 : URA M) (H : Heap 𝓤) (A : Atoms 𝓤) (W : Given
         next less = one-more e (now s) t (ltb→lt n k less)
 
     -- the body, from the parameters on
-    runs-body : Sq W (token κ q ∷ ‵ (file-own κ s) ∷ cells 𝓤 H En (none ∷ some (edition-val e) ∷ some (file-val s) ∷ none ∷ none ∷ none ∷ none ∷ none
+    runs-body : Sq W (token κ q ∷ ‵ (file-own κ s) ∷ locals 𝓤 H En (none ∷ some (edition-val e) ∷ some (file-val s) ∷ none ∷ none ∷ none ∷ none ∷ none
         ∷ none ∷ none ∷ none ∷ []))
         (runs (𝓣 .C) (𝓣 .Λ) En t-1 (atRet En Post))
     runs-body =
