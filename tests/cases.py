@@ -1,15 +1,10 @@
-#!/usr/bin/env python3
-"""Writes the inputs and the expected output of the program `cases`, from document 01's definitions.
+"""Rota files, good and damaged, and the listing of each, from the rules of docs/RULES.md; nothing is shared with the library.
 
-usage: tests/cases.py DIR      (DIR/data/*, DIR/args and DIR/stdout; DIR is crates/cases)
-
-Plans come from a search in dictionary order, refusals from a reading of the file's layout. Where a case's
-result is known from how it was made, it stands beside the case and is compared too.
+Plans come from a search in dictionary order, refusals from a reading of the file's layout. Where a case's result is known from how it was made, it
+stands beside the case and is compared too.
 """
 import functools
-import os
 import random
-import sys
 
 MOST = 1000
 
@@ -281,27 +276,11 @@ def damaged():
     yield "4-and-no-plan", rota([1, 1, 1], [0, 0, 2]), 4
 
 
-def main():
-    where = sys.argv[1]
-    folder = os.path.join(where, "data")
-    os.makedirs(folder, exist_ok=True)
-    for name in os.listdir(folder):
-        os.remove(os.path.join(folder, name))
-    cases = list(good()) + [(name, data, "refused %d" % code) for name, data, code in damaged()]
-    assert len({name for name, _, _ in cases}) == len(cases)
-    out = []
-    for name, data, last in cases:
+def cases():
+    """Each case's name, its bytes and the lines of its listing."""
+    made = list(good()) + [(name, data, "refused %d" % code) for name, data, code in damaged()]
+    assert len({name for name, _, _ in made}) == len(made)
+    for name, data, last in made:
         lines = listing(data)
         assert last in (None, lines[-1]), (name, lines[-1])
-        with open(os.path.join(folder, name), "wb") as f:
-            f.write(data)
-        out += [name] + lines
-    with open(os.path.join(where, "args"), "w") as f:
-        f.write("".join(name + "\n" for name, _, _ in cases))
-    with open(os.path.join(where, "stdout"), "w") as f:
-        f.write("".join(line + "\n" for line in out))
-    print("%d cases, %d lines" % (len(cases), len(out)))
-
-
-if __name__ == "__main__":
-    main()
+        yield name, data, lines
