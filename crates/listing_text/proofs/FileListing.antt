@@ -13,7 +13,7 @@ use Rattle.model.specs.Plans.{plans}
 use Rattle.model.specs.Refusal.{unless, orElse}
 use Rattle.model.specs.File.{fileCode, itemsIn, slotsIn, opensIn, calloutsIn}
 use Rattle.model.specs.FileAnswers.{readCode, readAnswer, readOpens, readCallouts}
-use Rattle.model.specs.ListingText.{numberLine, refusedLine, listingOf, listingText}
+use Rattle.model.specs.ListingText.{refusedWord, numberLine, refusedLine, listingOf, listingText}
 use Rattle.model.proofs.Accepted.{tables-from}
 use Rattle.model.proofs.Refusals.{or-first, or-later, room-enough, refused-answer, accepted-answer}
 use Rattle.model.proofs.Codes.{read-code}
@@ -22,7 +22,7 @@ use Rattle.model.proofs.Files.{accepted-file}
 use Rattle.model.proofs.RoundTrips.{opens-read, callouts-read, opens-room, callouts-room}
 use Rattle.model.proofs.ListingLength.{listing-length}
 use Rattle.listing_text.specs.Writing.{Wrote}
-use Rattle.listing_text.proofs.FirstSteps.{refused-word, refused-is}
+use Rattle.listing_text.proofs.FirstSteps.{refused-is}
 
 -- 64 words are enough for any file
 all-read : (file : List ℕ) → readCode Edition.One file 64 64 ≡ fileCode Edition.One file
@@ -49,13 +49,13 @@ module _ (file : List ℕ) (r : ReadAnswer) (read : r ≡ readAnswer Edition.One
   text-room = omega (arith, listing-length Edition.One file)
 
   module _ (d : r .code ≢ 0) where
-    refused-text : listingText Edition.One file ≡ numberLine refused-word (r .code)
+    refused-text : listingText Edition.One file ≡ numberLine refusedWord (r .code)
     refused-text = text-is file ∙ sym (refused-answer (r .code) (fileCode Edition.One file) d (sym code-is) refusedLine _) ∙ refused-is (r .code)
 
-    pub refusal-fits : length (numberLine refused-word (r .code)) ≤ length page
+    pub refusal-fits : length (numberLine refusedWord (r .code)) ≤ length page
     refusal-fits = rw refused-text at text-room
 
-    pub refusal-written : {new : List ℕ} {n : ℕ} → Wrote (numberLine refused-word (r .code)) page new n → Wrote (listingText Edition.One file) page new n
+    pub refusal-written : {new : List ℕ} {n : ℕ} → Wrote (numberLine refusedWord (r .code)) page new n → Wrote (listingText Edition.One file) page new n
     refusal-written w = rw refused-text w
 
   module _ (z : r .code ≡ 0) (o k : List ℕ) (to : o ≡ readOpens Edition.One file (replicate 64 0) (replicate 64 0))

@@ -6,7 +6,7 @@ use native.Mathlib.Numerals.{add-one}
 use lib.ListN.{length, getD, take, drop, drop-of-length-le}
 use lib.Seq.{drop-cons}
 use Rattle.model.specs.Fewest.{calloutsOf}
-use Rattle.model.specs.ListingText.{decimal, numberLine, slotText, planLine}
+use Rattle.model.specs.ListingText.{strokeWord, decimal, numberLine, slotText, planLine}
 use Rattle.listing_text.specs.Writing.{Wrote}
 use Rattle.listing_text.proofs.Begun.{Begun, tail, put, begin, fits, more, first-fits, after}
 
@@ -57,11 +57,8 @@ module _ {plan old page : List ℕ} {at i : ℕ} (s : SlotsBegun plan old page a
 -- ---- a plan
 
 -- what stands after the position and ":"
-abbrev pub slash : List ℕ
-slash = 32 ∷ 47 ∷ 32 ∷ []
-
 abbrev pub slotsAndCallouts : List ℕ → List ℕ → List ℕ
-slotsAndCallouts callouts p = flatMap slotText (take (length callouts) p) ++ numberLine slash (calloutsOf callouts p)
+slotsAndCallouts callouts p = flatMap slotText (take (length callouts) p) ++ numberLine strokeWord (calloutsOf callouts p)
 
 module _ (callouts : List ℕ) (k : ℕ) (p out : List ℕ) (room : length (planLine callouts k p) ≤ length out) where
   pub position-fits : length (decimal k) ≤ length out

@@ -7,7 +7,7 @@ use lib.Dec.{eqb}
 use lib.ListN.{length, take, drop, replicate}
 use Rattle.model.specs.declared.Lister.{Lister}
 use Rattle.model.specs.Plans.{plans}
-use Rattle.model.specs.ListingText.{numberLine, planLines, lastLine}
+use Rattle.model.specs.ListingText.{endWord, moreWord, numberLine, planLines, lastLine}
 use Rattle.rota.specs.declared.lister.Stepped.{Stepped}
 use Rattle.rota.specs.Step.{stepOf}
 
@@ -18,7 +18,7 @@ pub record Wrote (text old new : List ℕ) (r : ℕ) : Type 0 where
 
 -- "more " or "end " and the number of plans listed, by the code of the step after them
 abbrev pub endOrMore : ℕ → ℕ → List ℕ
-endOrMore k code = cond (eqb code 0) (numberLine (109 ∷ 111 ∷ 114 ∷ 101 ∷ 32 ∷ []) k) (numberLine (101 ∷ 110 ∷ 100 ∷ 32 ∷ []) k)
+endOrMore k code = cond (eqb code 0) (numberLine moreWord k) (numberLine endWord k)
 
 -- a fresh lister, and its first step
 abbrev pub fresh : Lister

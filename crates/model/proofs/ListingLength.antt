@@ -14,6 +14,7 @@ use Rattle.model.specs.Rota.{tableCode}
 use Rattle.model.specs.Plans.{plans}
 use Rattle.model.specs.Fewest.{calloutsOf}
 use Rattle.model.specs.File.{fileCode, itemsIn, slotsIn, opensIn, calloutsIn}
+use Rattle.model.specs.ListingText.{refusedWord, rotaWord, endWord, moreWord, strokeWord}
 use Rattle.model.specs.ListingText.{decimal, numberLine, refusedLine, rotaLine, lastLine, slotText, planLine, planLines, listingOf, listingText}
 use Rattle.model.proofs.Accepted.{tables-from}
 use Rattle.model.proofs.Laws.{callouts-le, few, range}
@@ -33,17 +34,17 @@ number-line word x k h = omega (arith, length-append word (decimal x ++ (10 ∷ 
 
 refused-line : (c : ℕ) → length (refusedLine c) ≤ 29
 unfolding refusedLine
-refused-line c = number-line (114 ∷ 101 ∷ 102 ∷ 117 ∷ 115 ∷ 101 ∷ 100 ∷ 32 ∷ []) c 20 (decimal-length c)
+refused-line c = number-line refusedWord c 20 (decimal-length c)
 
 rota-line : (n : ℕ) → n < 100 → length (rotaLine n) ≤ 8
 unfolding rotaLine
-rota-line n h = number-line (114 ∷ 111 ∷ 116 ∷ 97 ∷ 32 ∷ []) n 2 (decimal-fits 1 n h)
+rota-line n h = number-line rotaWord n 2 (decimal-fits 1 n h)
 
 last-line : (count : ℕ) → length (lastLine count) ≤ 10
 unfolding lastLine
 last-line count = elim (decLe count 1000) [
-  | yes h ↦ rw (le-leb count 1000 h) (let s = number-line (101 ∷ 110 ∷ 100 ∷ 32 ∷ []) count 4 (decimal-fits 3 count (omega arith)) in omega arith)
-  | no h ↦ rw (lt-leb count 1000 (omega arith)) (number-line (109 ∷ 111 ∷ 114 ∷ 101 ∷ 32 ∷ []) 1000 4 (decimal-fits 3 1000 (omega arith)))
+  | yes h ↦ rw (le-leb count 1000 h) (let s = number-line endWord count 4 (decimal-fits 3 count (omega arith)) in omega arith)
+  | no h ↦ rw (lt-leb count 1000 (omega arith)) (number-line moreWord 1000 4 (decimal-fits 3 1000 (omega arith)))
 ]
 
 slots-length : (p : List ℕ) → ((i : ℕ) → i < length p → getD p i 0 < 100) → length (flatMap slotText p) ≤ 3 * length p
@@ -64,8 +65,8 @@ module _ (callouts : List ℕ) (items : length callouts ≤ 64) where
       let n = length callouts in
       let few-slots = slots-length (take n p) (λ i l. rw (getD-take n p i 0 (omega (arith, length-take n p))) (s i (omega (arith, length-take n p)))) in
       let slots = flatMap slotText (take n p) in
-      let tail = numberLine (32 ∷ 47 ∷ 32 ∷ []) (calloutsOf callouts p) in
-      let last = number-line (32 ∷ 47 ∷ 32 ∷ []) (calloutsOf callouts p) 2 (decimal-fits 1 (calloutsOf callouts p) (omega (arith, callouts-le callouts p))) in
+      let tail = numberLine strokeWord (calloutsOf callouts p) in
+      let last = number-line strokeWord (calloutsOf callouts p) 2 (decimal-fits 1 (calloutsOf callouts p) (omega (arith, callouts-le callouts p))) in
       omega (arith, length-append (decimal k) (58 ∷ (slots ++ tail)), length-append slots tail, decimal-fits 3 k h, few-slots, length-take n p, last)
 
   plan-lines : (j k : ℕ) (l : List (List ℕ)) → k + j ≤ 10000 → ((p : List ℕ) → List·Memᴰ p l → Short p) → length (planLines callouts k (take j l)) ≤ 203 * j

@@ -10,6 +10,28 @@ use Rattle.model.specs.Plans.{plans}
 use Rattle.model.specs.Fewest.{calloutsOf}
 use Rattle.model.specs.File.{fileCode, itemsIn, slotsIn, opensIn, calloutsIn}
 
+-- ---- words
+
+-- "refused "
+abbrev pub refusedWord : List ℕ
+refusedWord = 114 ∷ 101 ∷ 102 ∷ 117 ∷ 115 ∷ 101 ∷ 100 ∷ 32 ∷ []
+
+-- "rota "
+abbrev pub rotaWord : List ℕ
+rotaWord = 114 ∷ 111 ∷ 116 ∷ 97 ∷ 32 ∷ []
+
+-- "end "
+abbrev pub endWord : List ℕ
+endWord = 101 ∷ 110 ∷ 100 ∷ 32 ∷ []
+
+-- "more "
+abbrev pub moreWord : List ℕ
+moreWord = 109 ∷ 111 ∷ 114 ∷ 101 ∷ 32 ∷ []
+
+-- " / "
+abbrev pub strokeWord : List ℕ
+strokeWord = 32 ∷ 47 ∷ 32 ∷ []
+
 -- ---- numbers and lines
 
 -- the decimal digits of a number that has at most k of them, most significant first; "0" is byte 48
@@ -27,20 +49,18 @@ unfoldable pub numberLine : List ℕ → ℕ → List ℕ
 unfolding decimal
 numberLine word x = word ++ (decimal x ++ (10 ∷ []))
 
--- "refused "
 unfoldable pub refusedLine : ℕ → List ℕ
 unfolding numberLine
-refusedLine = numberLine (114 ∷ 101 ∷ 102 ∷ 117 ∷ 115 ∷ 101 ∷ 100 ∷ 32 ∷ [])
+refusedLine = numberLine refusedWord
 
--- "rota "
 unfoldable pub rotaLine : ℕ → List ℕ
 unfolding numberLine
-rotaLine = numberLine (114 ∷ 111 ∷ 116 ∷ 97 ∷ 32 ∷ [])
+rotaLine = numberLine rotaWord
 
 -- how many plans there are, after "end "; above 1,000 "more 1000"
 unfoldable pub lastLine : ℕ → List ℕ
 unfolding numberLine
-lastLine count = cond (leb count 1000) (numberLine (101 ∷ 110 ∷ 100 ∷ 32 ∷ []) count) (numberLine (109 ∷ 111 ∷ 114 ∷ 101 ∷ 32 ∷ []) 1000)
+lastLine count = cond (leb count 1000) (numberLine endWord count) (numberLine moreWord 1000)
 
 -- ---- plans
 
@@ -53,7 +73,7 @@ slotText j = 32 ∷ decimal j
 unfoldable pub planLine : List ℕ → ℕ → List ℕ → List ℕ
 unfolding decimal flatMap slotText numberLine calloutsOf
 planLine callouts k p =
-    decimal k ++ (58 ∷ (flatMap slotText (take (length callouts) p) ++ numberLine (32 ∷ 47 ∷ 32 ∷ []) (calloutsOf callouts p)))
+    decimal k ++ (58 ∷ (flatMap slotText (take (length callouts) p) ++ numberLine strokeWord (calloutsOf callouts p)))
 
 -- a line for each plan, from position k on
 unfoldable pub planLines : List ℕ → ℕ → List (List ℕ) → List ℕ

@@ -8,9 +8,9 @@ use lib.ListN.{length, take, set}
 use lib.Seq.{length-take-le}
 use Rattle.plan.proofs.callouts_of.Reads as callouts-of
 use Rattle.model.specs.Fewest.{calloutsOf}
-use Rattle.model.specs.ListingText.{numberLine, slotText, planLine}
+use Rattle.model.specs.ListingText.{strokeWord, numberLine, slotText, planLine}
 use Rattle.listing_text.proofs.Begun.{Begun, put, fits, more, fits-last, last, inside, byte, done}
-use Rattle.listing_text.proofs.LineParts.{slash, slotsAndCallouts, position-fits, position-written}
+use Rattle.listing_text.proofs.LineParts.{slotsAndCallouts, position-fits, position-written}
 use Rattle.listing_text.proofs.number.Reads as number
 use Rattle.listing_text.proofs.slots.Reads as slots
 use Rattle.listing_text.proofs.number_line.Reads as number-line
@@ -39,16 +39,16 @@ add-b c = let w = byte (position (c .before .before)) in omega (arith, w .within
 slots-requires : tie.Need-slots-requires
 slots-requires c κs =
     let a = c .before .before .before .before .before .before .before .before .args in
-    fits (flatMap slotText (take (length (a .callouts .now)) (a .t3))) (numberLine slash (calloutsOf (a .callouts .now) (a .t3)))
+    fits (flatMap slotText (take (length (a .callouts .now)) (a .t3))) (numberLine strokeWord (calloutsOf (a .callouts .now) (a .t3)))
     (byte (position (c .before .before .before .before)))
 
 given : (c : lts.After-slots claims Pre Post) → let at = c .before .before .before .before .before in let a = at .before .before .before .before .args in
-    Begun (planLine (a .callouts .now) (a .k) (a .t3)) (numberLine slash (calloutsOf (a .callouts .now) (a .t3))) (a .out .now)
+    Begun (planLine (a .callouts .now) (a .k) (a .t3)) (numberLine strokeWord (calloutsOf (a .callouts .now) (a .t3))) (a .out .now)
     (put (at .number .result + 1) (set (at .number .last .1 .0) (at .number .result) 58) (c .slots .last .1 .0)) (at .number .result + 1 + c .slots .result)
 given c =
     let at = c .before .before .before .before .before in
     let a = at .before .before .before .before .args in
-    more (flatMap slotText (take (length (a .callouts .now)) (a .t3))) (numberLine slash (calloutsOf (a .callouts .now) (a .t3))) (byte (position at))
+    more (flatMap slotText (take (length (a .callouts .now)) (a .t3))) (numberLine strokeWord (calloutsOf (a .callouts .now) (a .t3))) (byte (position at))
     (c .slots .ensures)
 
 add-c : tie.Need-add-c
@@ -57,7 +57,7 @@ add-c c = let w = given (c .before .before) in omega (arith, w .within, w .sized
 number-line-requires : tie.Need-number-line-requires
 number-line-requires c κs =
     let at = c .before in
-    rw (at .callouts-of .ensures) (fits-last (numberLine slash _) (given (at .before .before .before .before)))
+    rw (at .callouts-of .ensures) (fits-last (numberLine strokeWord _) (given (at .before .before .before .before)))
 
 sub-number-line : tie.Need-sub-number-line
 sub-number-line c = given (c .before .before .before .before) .within
@@ -70,7 +70,7 @@ line : (c : lts.After-number-line claims Pre Post) → let counted = c .before .
     (b + counted .slots .result + c .number-line .result)
 line c =
     let counted = c .before .before .before .before .before .before in
-    last (numberLine slash _) (given counted) (rw (c .before .before .callouts-of .ensures) at (c .number-line .ensures))
+    last (numberLine strokeWord _) (given counted) (rw (c .before .before .callouts-of .ensures) at (c .number-line .ensures))
 
 add-result : tie.Need-add-result
 add-result c = let w = line (c .before .before) in omega (arith, w .within, w .sized)
