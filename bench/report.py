@@ -56,6 +56,8 @@ def whole(values):
 
 def result(times, peers, stack):
     plans20, plans64 = rows(times["Plans, n = 20, µs a call"]), rows(times["Plans, n = 64, µs a call"])
+    cells = rows(times["A cell's plan, n = 64, µs a call"])
+    others = rows(times["A cell that is not open, n = 64, random 6 and a plan, µs a call"])
     counting = rows(times["Counting, n = 20, µs a call"])
     plan, fewest = rows(peers["A plan, µs a call"]), rows(peers["The fewest callouts, µs a call"])
     count = [row for row in rows(peers["The number of plans, µs a call"]) if row[0] == "20"]
@@ -66,7 +68,9 @@ def result(times, peers, stack):
     return "\n".join([
         f"- At 20 items {calls(plans20)}; the count {counts} ms.",
         f"- At 64 items {calls(plans64)}.",
-        f"- The same algorithms in Rust: the library takes {span(ratios(plans64, 4))} times their time at 64 items, "
+        f"- The first plan that holds an open cell takes {span(numbers(cells, 3))} µs at 64 items, {span(numbers(cells, 6))} times as long "
+        f"as the first plan of the same family; a cell that is not open {span(numbers(others, 1))} µs.",
+        f"- The same algorithms in Rust: the library takes {span(ratios(plans64, 4) + numbers(cells, 5))} times their time at 64 items, "
         f"{span(ratios(plans20, 4))} at 20, and {span(ratios(counting, 3))} to count.",
         f"- Instead of a plan igraph or LEMON, which answer less, take {whole(factors(plan, [3, 5]))} times as long "
         f"({whole(factors(plan, [4, 6]))} with a graph built before); for the fewest callouts {whole(factors(fewest, [3, 5, 7]))} "

@@ -44,9 +44,9 @@
 #include <stddef.h>
 #include <stdint.h>
 
-/* The version, in numbers and as a text made of them: "1.0.0". */
+/* The version, in numbers and as a text made of them: "1.1.0". */
 #define ROTA_VERSION_MAJOR 1
-#define ROTA_VERSION_MINOR 0
+#define ROTA_VERSION_MINOR 1
 #define ROTA_VERSION_PATCH 0
 #define ROTA_VERSION ROTA_VERSION_OF(ROTA_VERSION_MAJOR, ROTA_VERSION_MINOR, ROTA_VERSION_PATCH)
 #define ROTA_VERSION_OF(major, minor, patch) ROTA_VERSION_TEXT(major, minor, patch)
@@ -108,7 +108,10 @@ enum {
     ROTA_FILE_BYTES = 1536   /* bytes of the longest rota file */
 };
 
-/* Byte i is item i's slot; bytes from n on are 0. A refused call gives 64 bytes of 255. */
+/*
+ * Byte i is item i's slot; bytes from n on are 0. The blank plan, 64 bytes of 255, is given by a refused call, and by
+ * rota_cell_plan if no plan holds the cell.
+ */
 typedef struct {
     uint8_t slots[64];
 } rota_plan;
@@ -192,6 +195,14 @@ rota_plan_answer rota_list_plan(rota_lister *lister, size_t n, const uint64_t *o
  */
 rota_plan_answer rota_fewest_callouts(size_t n, const uint64_t *opens, size_t opens_len,
                                       const uint64_t *callouts, size_t callouts_len, uint32_t cap);
+
+/*
+ * The first complete plan that gives this item this slot; the blank plan if none does, and this is no refusal. item and
+ * slot may be any numbers: no plan holds a cell with one of n or above. With ROTA_DONE, slots[0] is below n if a plan
+ * holds the cell, else 255. Tests TABLES.
+ */
+rota_plan_answer rota_cell_plan(size_t n, const uint64_t *opens, size_t opens_len,
+                                const uint64_t *callouts, size_t callouts_len, size_t item, size_t slot);
 
 /*
  * The usable table: on success the first n words of usable are written; bit j of word i is set if some complete plan

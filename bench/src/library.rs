@@ -31,6 +31,15 @@ mod c {
             c_len: usize,
             cap: u32,
         ) -> PlanAnswer;
+        pub fn rota_cell_plan(
+            n: usize,
+            o: *const u64,
+            o_len: usize,
+            c: *const u64,
+            c_len: usize,
+            item: usize,
+            slot: usize,
+        ) -> PlanAnswer;
         pub fn rota_usable_slots(
             n: usize,
             o: *const u64,
@@ -111,6 +120,10 @@ pub fn list_plan(lister: &mut Lister, n: usize, o: &[u64], c: &[u64]) -> PlanAns
 
 pub fn fewest_callouts(n: usize, o: &[u64], c: &[u64], cap: u32) -> PlanAnswer {
     unsafe { c::rota_fewest_callouts(n, o.as_ptr(), o.len(), c.as_ptr(), c.len(), cap) }
+}
+
+pub fn cell_plan(n: usize, o: &[u64], c: &[u64], item: usize, slot: usize) -> PlanAnswer {
+    unsafe { c::rota_cell_plan(n, o.as_ptr(), o.len(), c.as_ptr(), c.len(), item, slot) }
 }
 
 pub fn usable_slots(n: usize, o: &[u64], c: &[u64], usable: &mut [u64]) -> u32 {

@@ -1,5 +1,6 @@
 //! Times the library's calls beside the same algorithms in Rust, and prints tables. Answers are compared before anything is timed.
 
+mod cells;
 mod families;
 mod library;
 mod random;
@@ -12,8 +13,7 @@ mod timing;
 use families::{counted, families, hardest, Family, Rota};
 use records::{Lister, Plan, PlanAnswer};
 use report::{heading, machine, Report};
-use side::{Side, LIBRARY, RUST};
-use std::fmt::Debug;
+use side::{agree, Side, LIBRARY};
 use std::hint::black_box;
 use timing::times;
 
@@ -21,13 +21,6 @@ const VEHICLES: u64 = 500;
 
 /// The family of the tables that have one alone.
 const HIDDEN: &str = "random 6 and a plan";
-
-/// Ends the program if the two sides differ.
-fn agree<T: PartialEq + Debug>(what: &str, call: impl Fn(&Side) -> T) -> T {
-    let (library, rust) = (call(&LIBRARY), call(&RUST));
-    assert!(library == rust, "{what}: the library gives {library:?}, Rust {rust:?}");
-    library
-}
 
 /// The first plan of each rota. Ends the program if the two sides differ on a rota that is timed, or on the plans that follow.
 fn compare_plans(n: usize, Family { name, rotas }: &Family) -> Vec<PlanAnswer> {
@@ -273,6 +266,7 @@ fn main() {
     machine(rounds);
     plans(&mut report, 64, families(64));
     plans(&mut report, 20, counted(20));
+    cells::cells(&mut report);
     counts(&mut report, 20);
     desk(&mut report);
     growth(&mut report);

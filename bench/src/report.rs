@@ -5,8 +5,12 @@ use crate::timing::Times;
 /// The library's time over Rust's.
 const MOST_RATIO: f64 = 1.3;
 
+/// The time of a cell's plan over that of the first plan.
+const MOST_FIRSTS: f64 = 1.5;
+
 /// The limits on times, in µs, of 64 items.
-const LIMITS: [(&str, f64); 4] = [("first", 6.0), ("next", 4.0), ("usable", 6.0), ("fewest", 20.0)];
+const LIMITS: [(&str, f64); 6] =
+    [("first", 6.0), ("next", 4.0), ("usable", 6.0), ("fewest", 20.0), ("closed cell", 0.5), ("cell outside", 0.5)];
 
 struct Cell {
     call: &'static str,
@@ -19,16 +23,26 @@ struct Cell {
 pub struct Report {
     pub rounds: u32,
     cells: Vec<Cell>,
+    firsts: Vec<(&'static str, f64)>,
 }
 
 impl Report {
     pub fn new(rounds: u32) -> Self {
-        Report { rounds, cells: Vec::new() }
+        Report { rounds, cells: Vec::new(), firsts: Vec::new() }
     }
 
     pub fn cell(&mut self, call: &'static str, n: usize, family: &'static str, times: Times) {
         print!(" {} | {} | {:.2} |", digits(times.library), digits(times.rust), times.ratio());
         self.cells.push(Cell { call, n, family, times });
+    }
+
+    /// A cell's plan, with the first plan of the same family before it, and how many times as long it takes after it.
+    pub fn beside_first(&mut self, family: &'static str, cell: Times, first: Times) {
+        let firsts = cell.library / first.library;
+        print!(" {} |", digits(first.library));
+        self.cell("cell", 64, family, cell);
+        print!(" {firsts:.2} |");
+        self.firsts.push((family, firsts));
     }
 
     /// The worst of each call that has a limit, the ratios, and what is above its limit.
@@ -44,9 +58,14 @@ impl Report {
                 above.push(format!("{call}, n = 64, {}: {time} µs", worst.family));
             }
         }
+        println!("| cell / first, n = 64 | {MOST_FIRSTS} | {} |", range(self.firsts.iter().map(|family| family.1)));
+        for (family, firsts) in self.firsts.iter().filter(|family| family.1 > MOST_FIRSTS) {
+            above.push(format!("cell, n = 64, {family}: {firsts:.2} times as long as first"));
+        }
         let (full, smaller): (Vec<&Cell>, Vec<&Cell>) = self.cells.iter().partition(|cell| cell.n == 64);
-        println!("| library / Rust, n = 64 | {MOST_RATIO} | {} |", range(&full));
-        println!("| library / Rust, n below 64 | {MOST_RATIO} | {} |\n", range(&smaller));
+        let ratios = |cells: &[&Cell]| range(cells.iter().map(|cell| cell.times.ratio()));
+        println!("| library / Rust, n = 64 | {MOST_RATIO} | {} |", ratios(&full));
+        println!("| library / Rust, n below 64 | {MOST_RATIO} | {} |\n", ratios(&smaller));
         for cell in self.cells.iter().filter(|cell| cell.times.ratio() > MOST_RATIO) {
             let Cell { call, n, family, times } = cell;
             above.push(format!(
@@ -64,9 +83,9 @@ impl Report {
     }
 }
 
-fn range(cells: &[&Cell]) -> String {
-    let least = cells.iter().map(|cell| cell.times.ratio()).fold(f64::INFINITY, f64::min);
-    let most = cells.iter().map(|cell| cell.times.ratio()).fold(0.0, f64::max);
+fn range(ratios: impl Iterator<Item = f64> + Clone) -> String {
+    let least = ratios.clone().fold(f64::INFINITY, f64::min);
+    let most = ratios.fold(0.0, f64::max);
     format!("{least:.2} to {most:.2}")
 }
 
@@ -78,12 +97,15 @@ fn digits(us: f64) -> String {
     }
 }
 
+/// The heading of a table that has the library's time, Rust's and their ratio of each call.
 pub fn heading(title: &str, first: &str, calls: &[&str]) {
-    print!("\n### {title}, µs a call\n\n| {first} |");
-    calls.iter().for_each(|call| print!(" {call} | Rust | ratio |"));
-    print!("\n|---|");
-    calls.iter().for_each(|_| print!("--:|--:|--:|"));
-    println!();
+    let columns: Vec<&str> = calls.iter().flat_map(|&call| [call, "Rust", "ratio"]).collect();
+    table(title, first, &columns);
+}
+
+pub fn table(title: &str, first: &str, columns: &[&str]) {
+    println!("\n### {title}, µs a call\n\n| {first} | {} |", columns.join(" | "));
+    println!("|---|{}", "--:|".repeat(columns.len()));
 }
 
 /// The machine, how many programs wanted to run in the last minute, and the rounds.

@@ -1,14 +1,16 @@
-//! The two sides, called through pointers alike.
+//! The two sides, called through pointers alike, and whether they agree.
 
 use crate::library;
 use crate::records::{CountAnswer, GradeAnswer, Lister, Plan, PlanAnswer, PriceAnswer, ReadAnswer, WriteAnswer};
 use crate::same::rota::{counting, file_plans, files, lister, plans, pricing, usable};
+use std::fmt::Debug;
 
 pub struct Side {
     pub first_plan: fn(usize, &[u64], &[u64]) -> PlanAnswer,
     pub next_plan: fn(usize, &[u64], &[u64], Plan) -> PlanAnswer,
     pub list_plan: fn(&mut Lister, usize, &[u64], &[u64]) -> PlanAnswer,
     pub fewest_callouts: fn(usize, &[u64], &[u64], u32) -> PlanAnswer,
+    pub cell_plan: fn(usize, &[u64], &[u64], usize, usize) -> PlanAnswer,
     pub usable_slots: fn(usize, &[u64], &[u64], &mut [u64]) -> u32,
     pub count_plans: fn(usize, &[u64], &[u64], &mut [u64]) -> CountAnswer,
     pub grade: fn(usize, &[u64], &[u64], &mut [u64]) -> GradeAnswer,
@@ -25,6 +27,7 @@ pub static LIBRARY: Side = Side {
     next_plan: library::next_plan,
     list_plan: library::list_plan,
     fewest_callouts: library::fewest_callouts,
+    cell_plan: library::cell_plan,
     usable_slots: library::usable_slots,
     count_plans: library::count_plans,
     grade: library::grade,
@@ -41,6 +44,7 @@ pub static RUST: Side = Side {
     next_plan: plans::rota_next_plan,
     list_plan: lister::rota_list_plan,
     fewest_callouts: plans::rota_fewest_callouts,
+    cell_plan: plans::rota_cell_plan,
     usable_slots: usable::rota_usable_slots,
     count_plans: counting::rota_count_plans,
     grade: pricing::rota_grade,
@@ -51,3 +55,10 @@ pub static RUST: Side = Side {
     file_next_plan: file_plans::rota_file_next_plan,
     file_fewest_callouts: file_plans::rota_file_fewest_callouts,
 };
+
+/// Ends the program if the two sides differ.
+pub fn agree<T: PartialEq + Debug>(what: &str, call: impl Fn(&Side) -> T) -> T {
+    let (library, rust) = (call(&LIBRARY), call(&RUST));
+    assert!(library == rust, "{what}: the library gives {library:?}, Rust {rust:?}");
+    library
+}

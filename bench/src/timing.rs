@@ -84,3 +84,10 @@ pub fn times(rounds: u32, calls: usize, mut pass: impl FnMut(&Side)) -> Times {
     let of = if once < LONG { best } else { median };
     Times { library: of(&library) / calls as f64, rust: of(&rust) / calls as f64 }
 }
+
+/// The mean of times.
+pub fn mean(all: impl Iterator<Item = Times>) -> Times {
+    let all: Vec<Times> = all.collect();
+    let of = |time: fn(&Times) -> f64| all.iter().map(time).sum::<f64>() / all.len() as f64;
+    Times { library: of(|t| t.library), rust: of(|t| t.rust) }
+}

@@ -27,7 +27,7 @@ static unsigned char *stack;          /* STACK bytes above a page that nobody ma
 static unsigned char *volatile frame; /* the lowest place of the caller's frame */
 
 /* What the calls take and give. */
-static size_t n, file_bytes;
+static size_t n, file_bytes, item, slot;
 static uint64_t opens[64], callouts[64], usable[64], read_opens[64], read_callouts[64];
 static uint64_t tally[1 << ROTA_MOST_COUNTED];
 static uint8_t file[ROTA_FILE_BYTES], buffer[64];
@@ -65,6 +65,7 @@ CALLER(first_plan, rota_first_plan(TABLES).code)
 CALLER(next_plan, rota_next_plan(TABLES, given).code)
 CALLER(list_plan, rota_list_plan(&lister, TABLES).code)
 CALLER(fewest_callouts, rota_fewest_callouts(TABLES, UINT32_MAX).code)
+CALLER(cell_plan, rota_cell_plan(TABLES, item, slot).code)
 CALLER(usable_slots, rota_usable_slots(TABLES, usable, 64))
 CALLER(count_plans, rota_count_plans(TABLES, TALLY).code)
 CALLER(grade, rota_grade(TABLES, TALLY).code)
@@ -123,6 +124,7 @@ static row rows[] = {
     {"next_plan", next_plan, 0, NULL},
     {"list_plan", list_plan, 0, NULL},
     {"fewest_callouts", fewest_callouts, 0, NULL},
+    {"cell_plan", cell_plan, 0, NULL},
     {"usable_slots", usable_slots, 0, NULL},
     {"count_plans", count_plans, 0, NULL},
     {"grade", grade, 0, NULL},
@@ -157,11 +159,25 @@ static uint32_t measure(void (*caller)(void), const bench_family *family)
     return code;
 }
 
+/* Two cells of each item: its lowest and its highest open slot. */
+static void measure_cells(const bench_family *family)
+{
+    for (item = 0; item < n; item++) {
+        const uint64_t word = opens[item];
+        require(word != 0, "every item has an open slot");
+        slot = (size_t)__builtin_ctzll(word);
+        require(measure(cell_plan, family) == ROTA_DONE, "a cell's plan is given");
+        slot = 63 - (size_t)__builtin_clzll(word);
+        require(measure(cell_plan, family) == ROTA_DONE, "a cell's plan is given");
+    }
+}
+
 static void measure_plans(const bench_family *family)
 {
     const uint32_t none = measure(first_plan, family);
     require(none == ROTA_DONE || none == ROTA_NO_PLAN, "there is a plan or none");
     require(measure(fewest_callouts, family) == none, "the fewest callouts are found with a plan");
+    measure_cells(family);
     require(measure(usable_slots, family) == ROTA_DONE, "the usable slots are given");
     lister.started = false;
     require(measure(list_plan, family) == none, "the lister begins");

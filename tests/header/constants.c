@@ -62,6 +62,10 @@ static void most_items(void)
     EXPECT(a.code == ROTA_DONE && a.plan.slots[0] == 0 && a.plan.slots[ROTA_MOST_ITEMS - 1] == ROTA_MOST_ITEMS - 1);
     a = rota_first_plan(ROTA_MOST_ITEMS + 1, opens, ROTA_MOST_ITEMS + 1, none, ROTA_MOST_ITEMS + 1);
     EXPECT(gives(a, ROTA_BAD_N, blank(), 0));
+    a = rota_cell_plan(ROTA_MOST_ITEMS, opens, ROTA_MOST_ITEMS, none, ROTA_MOST_ITEMS, ROTA_MOST_ITEMS - 1, ROTA_MOST_ITEMS - 1);
+    EXPECT(a.code == ROTA_DONE && a.plan.slots[0] == 0 && a.plan.slots[ROTA_MOST_ITEMS - 1] == ROTA_MOST_ITEMS - 1);
+    a = rota_cell_plan(ROTA_MOST_ITEMS, opens, ROTA_MOST_ITEMS, none, ROTA_MOST_ITEMS, ROTA_MOST_ITEMS, 0);
+    EXPECT(gives(a, ROTA_DONE, blank(), 0));
     written = rota_write_file(ROTA_MOST_ITEMS, opens, ROTA_MOST_ITEMS, none, ROTA_MOST_ITEMS, file, ROTA_FILE_BYTES - 1);
     EXPECT(written.code == ROTA_OUTPUT_TOO_SHORT && written.bytes == 0);
     written = rota_write_file(ROTA_MOST_ITEMS, opens, ROTA_MOST_ITEMS, none, ROTA_MOST_ITEMS, file, ROTA_FILE_BYTES);

@@ -78,6 +78,29 @@ static void plans(void)
     EXPECT(gives(rota_first_plan(3, CALLOUTS, 3, OPENS, 3), ROTA_CALLOUT_NOT_OPEN, blank(), 0));
 }
 
+/* The plan of a cell; without one the answer is the blank plan, and no refusal. */
+static void cells(void)
+{
+    uint64_t short_opens[4] = {1, 1, 2, 14}, none[4] = {0, 0, 0, 0};
+
+    EXPECT(gives(rota_cell_plan(T, 0, 0), ROTA_DONE, plan(0, 1, 2), 0));
+    EXPECT(gives(rota_cell_plan(T, 2, 2), ROTA_DONE, plan(0, 1, 2), 0));
+    EXPECT(gives(rota_cell_plan(T, 2, 1), ROTA_DONE, plan(0, 2, 1), 0));
+    EXPECT(gives(rota_cell_plan(T, 1, 0), ROTA_DONE, plan(1, 0, 2), 0));
+    EXPECT(gives(rota_cell_plan(T, 0, 2), ROTA_DONE, blank(), 0));
+    EXPECT(gives(rota_cell_plan(T, 3, 0), ROTA_DONE, blank(), 0));
+    EXPECT(gives(rota_cell_plan(T, 0, 3), ROTA_DONE, blank(), 0));
+    EXPECT(gives(rota_cell_plan(T, 64, 0), ROTA_DONE, blank(), 0));
+    EXPECT(gives(rota_cell_plan(T, 0, 64), ROTA_DONE, blank(), 0));
+    EXPECT(gives(rota_cell_plan(T, SIZE_MAX, 1), ROTA_DONE, blank(), 0));
+    EXPECT(gives(rota_cell_plan(T, 1, SIZE_MAX), ROTA_DONE, blank(), 0));
+    EXPECT(gives(rota_cell_plan(4, short_opens, 4, none, 4, 3, 3), ROTA_DONE, blank(), 0));
+    EXPECT(gives(rota_cell_plan(0, OPENS, 3, CALLOUTS, 3, 0, 0), ROTA_BAD_N, blank(), 0));
+    EXPECT(gives(rota_cell_plan(2, OPENS, 3, CALLOUTS, 3, 0, 0), ROTA_BAD_TABLE_LENGTH, blank(), 0));
+    EXPECT(gives(rota_cell_plan(2, OPENS, 2, CALLOUTS, 2, 2, 2), ROTA_SLOT_OUTSIDE, blank(), 0));
+    EXPECT(gives(rota_cell_plan(3, CALLOUTS, 3, OPENS, 3, 3, 3), ROTA_CALLOUT_NOT_OPEN, blank(), 0));
+}
+
 static void tables(void)
 {
     /* Word S: the ways to give the slots of S to the first items. */
@@ -155,6 +178,7 @@ static void files(void)
 int main(void)
 {
     plans();
+    cells();
     tables();
     files();
     constants();

@@ -23,6 +23,8 @@ static void no_tables(void)
     EXPECT(!lister.started && same(lister.plan, plan(0, 0, 0)));
     EXPECT(gives(rota_fewest_callouts(0, NO_TABLES, 9), ROTA_BAD_N, blank(), 0));
     EXPECT(gives(rota_fewest_callouts(3, NO_TABLES, 9), ROTA_BAD_TABLE_LENGTH, blank(), 0));
+    EXPECT(gives(rota_cell_plan(0, NO_TABLES, 0, 0), ROTA_BAD_N, blank(), 0));
+    EXPECT(gives(rota_cell_plan(3, NO_TABLES, 0, 0), ROTA_BAD_TABLE_LENGTH, blank(), 0));
     EXPECT(rota_usable_slots(0, NO_TABLES, NULL, 0) == ROTA_BAD_N);
     EXPECT(rota_count_plans(0, NO_TABLES, NULL, 0).code == ROTA_BAD_N);
     EXPECT(rota_grade(0, NO_TABLES, NULL, 0).code == ROTA_BAD_N);
@@ -80,6 +82,7 @@ void overlapping_inputs(void)
     EXPECT(gives(rota_list_plan(&lister, TWICE), ROTA_DONE, plan(0, 1, 2), 0));
     EXPECT(gives(rota_fewest_callouts(TWICE, 3), ROTA_DONE, plan(0, 1, 2), 3));
     EXPECT(gives(rota_fewest_callouts(TWICE, 2), ROTA_OVER_CAP, blank(), 3));
+    EXPECT(gives(rota_cell_plan(TWICE, 1, 2), ROTA_DONE, plan(0, 2, 1), 0));
     EXPECT(rota_usable_slots(TWICE, usable, 3) == ROTA_DONE && memcmp(usable, OPENS, sizeof usable) == 0);
     EXPECT(rota_count_plans(TWICE, tally, 8).count == 3 && tally[7] == 3);
     EXPECT(rota_grade(TWICE, tally, 8).grade == 3);
@@ -91,4 +94,6 @@ void overlapping_inputs(void)
 
     EXPECT(gives(rota_first_plan(3, words, 3, words + 1, 3), ROTA_DONE, plan(0, 1, 2), 0));
     EXPECT(gives(rota_fewest_callouts(3, words, 3, words + 1, 3, 9), ROTA_DONE, plan(0, 2, 1), 1));
+    EXPECT(gives(rota_cell_plan(3, words, 3, words + 1, 3, 1, 2), ROTA_DONE, plan(0, 2, 1), 0));
+    EXPECT(gives(rota_cell_plan(3, words, 3, words + 1, 3, 0, 1), ROTA_DONE, blank(), 0));
 }

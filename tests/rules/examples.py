@@ -1,10 +1,11 @@
 """Worked examples: `ROTA: asked → answer`, the table of worked rotas, the lister's table and the tally's. The library computes, the document expects."""
 from document import Wrong, expect, match, number, numbers, span
 from library import FILL, left, words_of
-from rotas import named, padded, rota_t
+from rotas import holding, named, padded, rota_t
 
 BLANK = bytes([255] * 64)
 FRESH = bytes(65)
+FAR = (63, 64, 256, 1 << 32, 1 << 61, (1 << 64) - 1)  # no items and no slots of a small rota, though some would be with fewer bits
 
 
 class Expected:
@@ -97,7 +98,23 @@ class Asked:
         expect(got == wanted and answer.code == (10 if wanted else 9), text, "- the lister gives", [list(plan) for plan in got])
         for before, after in zip(wanted, wanted[1:]):
             agrees(self.library.next_plan(rota, before), 0, text, after)
-        return max(1, len(wanted))
+        return max(1, len(wanted)) + self.cells(rota, wanted, text)
+
+    def cells(self, rota, plans, text):
+        """Each cell's plan, inside of the rota and outside: the first of all its plans that holds the cell."""
+        n = rota[0]
+        tried = [(item, slot) for item in (*range(n + 2), *FAR) for slot in (*range(n + 2), *FAR)]
+        for item, slot in tried:
+            plan = holding(plans, n, item, slot) or BLANK
+            agrees(self.library.cell_plan(rota, item, slot), 0, "%s: the plan of item %d and slot %d" % (text, item, slot), plan)
+        return len(tried)
+
+    def cell_plan(self, rota, item, slot, text):
+        item, slot, expected = number(item), number(slot), Expected(text)
+        expect(max(item, slot) < 1 << 64, "a number above 64 bits:", item, slot)
+        plan = None if expected.code else BLANK if text == "blank" else plan_of(text)
+        agrees(self.library.cell_plan(rota, item, slot), expected.code, text, plan, **expected.brings)
+        return 1
 
     def callouts_of(self, rota, plan, text):
         """The fewest callouts where only the plan's cells are open."""
@@ -113,7 +130,11 @@ class Asked:
         agrees(answer, 0, text)
         words = words_of(left(answer, "usable"))
         expect(list(words[:-2]) == numbers(text) and left(answer, "usable").endswith(FILL * 16), text, "- the library writes", words)
-        return 1
+        cells = [(item, slot) for item in range(rota[0]) for slot in range(64)]
+        for item, slot in cells:
+            held = self.library.cell_plan(rota, item, slot).plan != BLANK
+            expect(held == bool(words[item] >> slot & 1), text, "- not so by the plan of item", item, "and slot", slot)
+        return 1 + len(cells)
 
     def tally(self, rota, text):
         answer = self.library.count_plans(rota, (1 << rota[0]) + 3)
@@ -156,6 +177,8 @@ class Asked:
             return self.fewest(rota, *match("fewest callouts, cap #", asked), text)
         if words[0] == "next":
             return self.next_plan(rota, *match("next plan after ([0-9 ]+)", asked), text)
+        if words[0] == "cell's":
+            return self.cell_plan(rota, *match("cell's plan, item #, slot #", asked), text)
         if words[0] == "callouts":
             return self.callouts_of(rota, *match("callouts of ([0-9 ]+)", asked), text)
         raise Wrong("not understood: " + asked)

@@ -6,6 +6,7 @@ from refusals import Input
 from rotas import padded, plain
 
 ON_TABLES = (1, 2, 3, 4, 5, 6, 7, 8, 9, 10, 11, 15)
+OUTSIDE = 0  # wanted beside these numbers: a cell outside of the rota, which is no refusal
 ON_FILES = (12, 13, 14, 3, 4, 15, 8, 9, 10, 11)
 
 
@@ -50,7 +51,7 @@ def on_tables(wanted, longer=(0, 1)):
         tally = 0  # what n asks for is much, and a call that tests n looks no further
     short = 15 in wanted
     return Input((n, tuple(opens), tuple(callouts)), None, given(wanted, n)[:64], 0 if 11 in wanted else 64, 0 if 7 in wanted else 100,
-                 n - 1 if short and n else n + 2, 511 if short else 1536, tally)
+                 n - 1 if short and n else n + 2, 511 if short else 1536, tally, (n, 0) if OUTSIDE in wanted else (0, 1))
 
 
 def on_file(layout, wanted, n=2):

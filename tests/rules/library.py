@@ -118,6 +118,10 @@ class Library:
         return self.on_tables("rota_fewest_callouts", PlanAnswer, rota, [ctypes.c_uint32(cap)])
 
     @functools.lru_cache(maxsize=None)
+    def cell_plan(self, rota, item, slot):
+        return self.on_tables("rota_cell_plan", PlanAnswer, rota, [ctypes.c_size_t(item), ctypes.c_size_t(slot)])
+
+    @functools.lru_cache(maxsize=None)
     def usable_slots(self, rota, places):
         usable = Lent(FILL * 8 * places)
         return self.on_tables("rota_usable_slots", ctypes.c_uint32, rota, [(usable, 8)], [("usable", usable)])

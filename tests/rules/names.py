@@ -11,8 +11,8 @@ from rotas import rota_t
 ANSWERS = {"plan": "plan", "item set": "items", "shortage": "shortage", "fewest number": "callouts", "count": "count", "grade": "grade", "price": "cents",
            "number of bytes": "bytes", "n": "n"}
 
-GETS = {"given": "a plan", "lister": "a lister", "cap": "the cap r", "usable": "a table", "tally": "a tally", "vehicles": "vehicles", "file": "a buffer",
-        "opens": "two tables", "callouts": "two tables", "plan": "a plan buffer"}
+GETS = {"given": "a plan", "lister": "a lister", "cap": "the cap r", "item": "an item", "slot": "a slot", "usable": "a table", "tally": "a tally",
+        "vehicles": "vehicles", "file": "a buffer", "opens": "two tables", "callouts": "two tables", "plan": "a plan buffer"}
 
 
 def read(path):
@@ -70,6 +70,7 @@ def on_t(library, t, name, file):
         "rota_next_plan": lambda: library.next_plan(t, given),
         "rota_list_plan": lambda: library.list_plan(t, bytes(65)),
         "rota_fewest_callouts": lambda: library.fewest_callouts(t, 1),
+        "rota_cell_plan": lambda: library.cell_plan(t, 1, 2),
         "rota_usable_slots": lambda: library.usable_slots(t, 9),
         "rota_count_plans": lambda: library.count_plans(t, 19),
         "rota_grade": lambda: library.grade(t, 19),

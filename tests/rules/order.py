@@ -1,9 +1,10 @@
 """The order of tests: by the document a call gives the first number of its row that fits."""
 from document import Wrong, expect, numbers
-from examples import BLANK
+from examples import BLANK, agrees
 from files import Layout
-from inputs import ON_FILES, ON_TABLES, chosen, files_at_bounds, on_file, on_tables, tables_at_bounds
+from inputs import ON_FILES, ON_TABLES, OUTSIDE, chosen, files_at_bounds, on_file, on_tables, tables_at_bounds
 from refusals import FILES, NEVER_BOTH, TABLES, Numbers, fits
+from rotas import holding, plans
 
 
 class Order:
@@ -24,7 +25,7 @@ class Order:
         if kind not in self.known:
             bounds = self.numbers.bounds
             if kind == "tables":
-                self.known[kind] = [on_tables(wanted) for wanted in chosen(ON_TABLES)] + list(tables_at_bounds(bounds))
+                self.known[kind] = [on_tables(wanted) for wanted in chosen(ON_TABLES + (OUTSIDE,))] + list(tables_at_bounds(bounds))
             else:
                 self.known[kind] = [on_file(self.layout, wanted) for wanted in chosen(ON_FILES)] + list(files_at_bounds(self.layout, bounds))
         return self.known[kind]
@@ -51,6 +52,8 @@ class Order:
             brings = self.numbers.brings[wanted]
             expect(all((value != 0) == (name in brings) for name, value in answer.numbers.items()), call, wanted, "brings", answer.numbers)
             expect(answer.plan in (None, BLANK) and not answer.changed, call, wanted, "- a plan, or changed:", answer.changed)
+        elif call == "`rota_cell_plan`":
+            agrees(answer, 0, "%s %d %d of %s" % (call, *x.cell, str(x.rota)[:300]), holding(plans(x.rota), x.rota[0], *x.cell) or BLANK)
 
     def compare_text(self, x, wanted):
         text = self.program.text(x.data)

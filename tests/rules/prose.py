@@ -1,4 +1,5 @@
 """Numbers that stand in the rules' sentences. What each should be is found out from the library: the code that a call gives, the bound at which it gives it."""
+import ctypes
 import re
 
 from document import NUMBER, expect, match, number
@@ -16,6 +17,9 @@ SENTENCES = (
     ("Next plan", "(else #); # if none follows", "not-a-plan no-further"),
     ("Next plan", "the answer is # and never #", "not-a-plan no-plan"),
     ("Fewest callouts", "; # if there is no plan. If the number exceeds the cap r, a #-bit number, the answer is #", "no-plan cap over-cap"),
+    ("Cell's plan", "the number is #, and the plan's first byte is #", "unheld blank"),
+    ("Cell's plan", "whichever #-bit number it is", "size"),
+    ("Cell's plan", "by # to #, and nothing else. It never gives #,", "bad-n not-open no-plan"),
     ("Usable table", "all n words are #, and that is no refusal", "unusable"),
     ("Shortage", "Comes with refusal #.", "no-plan"),
     ("Count", "For n up to #; above, #. A count of # is a success.", "most-counted too-many no-plans"),
@@ -110,6 +114,7 @@ def figures(library, program, t):
         "word": least(lambda n: n > 0 and library.first_plan((n, (0,) * (n - 1) + (2 ** 64 - 1,), (0,) * n)).code == 9),
         "plan": least(lambda n: library.file_first_plan(file.lent[-1][2][:512], bytes(n)).code == 0),
         "blank": blank[0],
+        "unheld": library.cell_plan(plain([0, 3]), 1, 0).code,
         "unusable": max(library.usable_slots(plain([0, 3]), 2).lent[-1][2]),
         "no-plans": library.count_plans(plain([0]), 2).numbers["count"],
         "most-counted": least(lambda n: n > 0 and library.count_plans(diagonal(n), 0).code == 5) - 1,
@@ -134,11 +139,13 @@ def numbers_in(doc, title, sentence):
 
 
 def prose(doc, library, program, header, places=None):
-    """Each number of each sentence; `places` gets their places in the document. The bits of a cap are the header's."""
+    """Each number of each sentence; `places` gets their places in the document. The bits of a cap, of an item and of a slot are the header's."""
     t, text, compared = rota_t(doc), "\n".join(doc.lines), 0
-    with open(header) as declared:
-        (bits,) = set(re.findall(r"uint(\d+)_t cap\b", declared.read()))
-    known = {"cap": int(bits), **codes(library, t), **price(doc, library, t), **figures(library, program, t)}
+    with open(header) as page:
+        declared = page.read()
+    (bits,) = set(re.findall(r"uint(\d+)_t cap\b", declared))
+    expect(re.search(r"rota_cell_plan\([^;]*\bsize_t item,\s+size_t slot\);", declared), "a cell's item or slot is no size_t")
+    known = {"cap": int(bits), "size": 8 * ctypes.sizeof(ctypes.c_size_t), **codes(library, t), **price(doc, library, t), **figures(library, program, t)}
     for title, sentence, wanted in SENTENCES:
         for (start, end), name in zip(numbers_in(doc, title, sentence), wanted.split()):
             expect(int(text[start:end].replace(",", "")) == known[name], title, "-", sentence, "- the library has", known[name])

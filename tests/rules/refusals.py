@@ -32,6 +32,7 @@ TABLES = {
     "`rota_list_plan`, fresh": lambda library, x: library.list_plan(x.rota, b"\0" + x.given),
     "`rota_list_plan`, started": lambda library, x: library.list_plan(x.rota, b"\1" + x.given),
     "`rota_fewest_callouts`": lambda library, x: library.fewest_callouts(x.rota, x.cap),
+    "`rota_cell_plan`": lambda library, x: library.cell_plan(x.rota, *x.cell),
     "`rota_usable_slots`": lambda library, x: library.usable_slots(x.rota, x.words),
     "`rota_count_plans`": lambda library, x: library.count_plans(x.rota, x.tally),
     "`rota_grade`": lambda library, x: library.grade(x.rota, x.tally),
@@ -52,8 +53,9 @@ NEVER_BOTH = {
     ("`rota_fewest_callouts`", 1, 11): "65 items have no plan in words of 64 slots, and no item has no callout",
 }
 
-# What a call may be given: a rota in tables or a file's bytes, a plan, a cap, vehicles, and the room of a table in words, of a buffer in bytes, of the tally.
-Input = collections.namedtuple("Input", "rota data given cap vehicles words bytes tally")
+# What a call may be given: a rota in tables or a file's bytes, a plan, a cap, vehicles, the room of a table in words, of a buffer in bytes and of the tally,
+# and a cell, its item and its slot.
+Input = collections.namedtuple("Input", "rota data given cap vehicles words bytes tally cell", defaults=[(0, 1)])
 
 
 class Numbers:

@@ -64,6 +64,11 @@ def plans(rota):
     return tuple(padded(slots) for slots in rest(0, 0))
 
 
+def holding(found, n, item, slot):
+    """The first of these plans of n items that gives the item this slot; None if there is none."""
+    return next((plan for plan in found if item < n and plan[item] == slot), None)
+
+
 def callouts_of(rota, plan):
     n, _, callouts = rota
     return sum(word_at(callouts, i) >> plan[i] & 1 for i in range(n))

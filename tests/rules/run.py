@@ -23,7 +23,7 @@ from library import Library
 
 # How many examples of each kind the document has. Another number fails.
 EXAMPLES = {
-    "example lines": 65,
+    "example lines": 81,
     "lister calls": 9,
     "grade rules": 5,
     "rates": 15,
@@ -32,11 +32,11 @@ EXAMPLES = {
     "lines of T's dump": 5,
     "listings": 6,
     "refusals in C": 15,
-    "pairs of tests": 253,
-    "calls": 13,
-    "sentences with numbers": 41,
-    "words": 20,
-    "rules linked": 33,
+    "pairs of tests": 259,
+    "calls": 14,
+    "sentences with numbers": 44,
+    "words": 21,
+    "rules linked": 34,
 }
 
 

@@ -4,6 +4,7 @@
 mod acceptance;
 mod answers;
 mod augment;
+mod cell;
 mod components;
 mod file_blocks;
 mod file_layout;

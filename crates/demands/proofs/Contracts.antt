@@ -13,13 +13,13 @@ use Rattle.model.specs.declared.GradeAnswer.{GradeAnswer}
 use Rattle.model.specs.declared.PriceAnswer.{PriceAnswer}
 use Rattle.model.specs.declared.ReadAnswer.{ReadAnswer}
 use Rattle.model.specs.declared.WriteAnswer.{WriteAnswer}
-use Rattle.model.specs.PlanAnswers.{firstAnswer, nextAnswer, fewestAnswer}
+use Rattle.model.specs.PlanAnswers.{firstAnswer, nextAnswer, fewestAnswer, cellAnswer}
 use Rattle.model.specs.Lister.{listerAnswer, listerAfter}
 use Rattle.model.specs.UsableAnswers.{usableCode, usableAfter}
 use Rattle.model.specs.CountAnswers.{countAnswer, countTally}
 use Rattle.model.specs.PriceAnswers.{gradeAnswer, gradeTally, priceAnswer, priceTally}
 use Rattle.model.specs.FileAnswers.{readAnswer, readOpens, readCallouts, writeAnswer, writeFile, fileFirst, fileNext, fileFewest, bufferAfter}
-use Rattle.demands.specs.Calls.{ListCall, EachFirst, EachNext, EachFewest, EachList, EachUsable, EachCount, EachGrade, EachPrice, EachRead, EachWrite}
+use Rattle.demands.specs.Calls.{ListCall, EachFirst, EachNext, EachFewest, EachCell, EachList, EachUsable, EachCount, EachGrade, EachPrice, EachRead, EachWrite}
 use Rattle.demands.specs.Calls.{EachFileFirst, EachFileNext, EachFileFewest, AskNothing}
 
 pub first-each : (Q : ℕ → List ℕ → List ℕ → PlanAnswer → Type 0)
@@ -36,6 +36,11 @@ pub fewest-each : (Q : ℕ → List ℕ → List ℕ → ℕ → PlanAnswer → 
     → ((n : ℕ) (opens callouts : List ℕ) (cap : ℕ) → Q n opens callouts cap (fewestAnswer n n opens callouts cap)) → EachFewest Q
 unfolding EachFewest
 fewest-each Q f κs a r s l = subst⁻¹ (Q _ _ _ _) l (f _ _ _ _)
+
+pub cell-each : (Q : ℕ → List ℕ → List ℕ → ℕ → ℕ → PlanAnswer → Type 0)
+    → ((n : ℕ) (opens callouts : List ℕ) (i j : ℕ) → Q n opens callouts i j (cellAnswer n n opens callouts i j)) → EachCell Q
+unfolding EachCell
+cell-each Q f κs a r s l = subst⁻¹ (Q _ _ _ _ _) l (f _ _ _ _ _)
 
 pub list-met : (c : ListCall)
     → let n = c .args .1 .0 in let e = now (c .args .0) in let opens = now (c .args .1 .1 .0) in let callouts = now (c .args .1 .1 .1 .0) in
@@ -109,6 +114,7 @@ ask-nothing =
       first-plan = λ κs a. tt;
       next-plan = λ κs a. tt;
       fewest-callouts = λ κs a. tt;
+      cell-plan = λ κs a. tt;
       usable-slots = λ κs a. tt;
       count-plans = λ κs a. tt;
       grade = λ κs a. tt;

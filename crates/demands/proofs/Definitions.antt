@@ -149,9 +149,10 @@ module _ (n m : ℕ) (opens callouts : List ℕ) (ok : tableCode n m opens callo
 
   pub usable-is : (i j : ℕ) → i < n → (bit (getD (allowedWords m opens) i 0) j ≡ 1) ↔ ((p : List ℕ) × IsPlan opens p × (getD p i 0 ≡ j))
   usable-is i j h =
-      let word = allowed-at m opens i (omega (arith, tables-from n m opens callouts ok .open-words)) in (
+      let item : i < length opens = omega (arith, tables-from n m opens callouts ok .open-words) in
+      let word = allowed-at m opens i item in (
         λ b. allowed-from m opens F R i j (rw word at b),
-        λ x. rw (word, ← x .2) (allowed-into m opens F R (x .0) (x .1) i),
+        λ x. rw (word, ← x .2) (allowed-into m opens F R (x .0) (x .1) i item),
       )
 
   pub usable-words : length (allowedWords m opens) ≡ n

@@ -12,10 +12,11 @@ use Rattle.model.specs.declared.ReadAnswer.{ReadAnswer}
 use Rattle.model.specs.declared.WriteAnswer.{WriteAnswer}
 use Rattle.model.specs.Refusal.{orElse, unless, written, roomCode}
 use Rattle.model.specs.Rota.{tableCode}
+use Rattle.model.specs.CellPlans.{cellPlan}
 use Rattle.model.specs.Count.{count}
 use Rattle.model.specs.declared.Edition.{Edition}
 use Rattle.model.specs.File.{blocksFor, fileCode, itemsIn, slotsIn, opensIn, calloutsIn}
-use Rattle.model.specs.PlanAnswers.{firstAnswer, nextAnswer, fewestAnswer}
+use Rattle.model.specs.PlanAnswers.{given, refused, firstAnswer, nextAnswer, fewestAnswer, cellAnswer}
 use Rattle.model.specs.Lister.{listerAnswer, listerAfter}
 use Rattle.model.specs.UsableAnswers.{usableAfter}
 use Rattle.model.specs.CountAnswers.{countRefused, countCode, countAnswer, countTally}
@@ -23,12 +24,12 @@ use Rattle.model.specs.PriceAnswers.{gradeAnswer, gradeTally, priceCode, priceA
 use Rattle.model.specs.FileAnswers.{readRefused, readCode, readAnswer, readOpens, readCallouts, writeRefused, writeCode, writeAnswer, writeFile, planFileCode}
 use Rattle.model.specs.FileAnswers.{onFile, bufferAfter}
 use Rattle.model.proofs.Refusals.{or-none, or-assoc, or-later, nothing-written}
-use Rattle.model.proofs.Codes.{first-code, next-code, fewest-code, count-code, grade-code, price-code, read-code, write-code, on-file-code}
+use Rattle.model.proofs.Codes.{first-code, next-code, fewest-code, cell-code, count-code, grade-code, price-code, read-code, write-code, on-file-code}
 use Rattle.model.proofs.Files.{accepted-file}
 use Rattle.model.proofs.Listing.{refused-keeps}
 use Rattle.demands.specs.Tests.{Test, FirstOf, test5, test6, test7, test8, test9, test10, test11, test15, tables, fileTests}
-use Rattle.demands.specs.Demand1.{Demand1}
-use Rattle.demands.proofs.Contracts.{first-each, next-each, fewest-each, list-each, usable-each, count-each, grade-each, price-each, read-each}
+use Rattle.demands.specs.Demand1.{Refused, Demand1}
+use Rattle.demands.proofs.Contracts.{first-each, next-each, fewest-each, cell-each, list-each, usable-each, count-each, grade-each, price-each, read-each}
 use Rattle.demands.proofs.Contracts.{write-each, file-first-each, file-next-each, file-fewest-each, ask-nothing}
 use Rattle.demands.proofs.TestLaws.{none-fits, tables-first, file-first, either, equals, less, test-first, room-first}
 use Rattle.demands.proofs.Definitions.{first-tests, next-tests, fewest-tests, grade-tests, price-tests}
@@ -53,6 +54,9 @@ module _ (n : ℕ) (opens callouts : List ℕ) where
 
   fewest-number : (cap : ℕ) → FirstOf (tables n opens callouts (test9 opens ∷ test11 opens callouts cap ∷ [])) (fewestAnswer n n opens callouts cap .code)
   fewest-number cap = rw (fewest-code n n opens callouts cap) (tables-first n opens callouts _ _ (λ ok. fewest-tests n n opens callouts ok cap))
+
+  cell-number : (i j : ℕ) → FirstOf (tables n opens callouts []) (cellAnswer n n opens callouts i j .code)
+  cell-number i j = last _ _ _ (tables-first n opens callouts [] 0 (λ ok. none-fits)) (cell-code n n opens callouts i j)
 
   list-number : (started : Bool) (g : Plan)
       → FirstOf (tables n opens callouts (cond started (test8 opens (g .slots) ∷ test10 opens (g .slots) ∷ []) (test9 opens ∷ [])))
@@ -114,6 +118,12 @@ module _ (file : List ℕ) where
 
 -- ---- what a refusal returns
 
+zero-cell : (n : ℕ) (opens callouts : List ℕ) (i j : ℕ) → cellAnswer n n opens callouts i j .code ≢ 0 → Refused (cellAnswer n n opens callouts i j)
+unfolding cellAnswer unless
+zero-cell n opens callouts i j =
+    let answer : ℕ → PlanAnswer = λ c. unless refused c (given (cellPlan n opens i j) 0) in
+    elim (tableCode n n opens callouts) as (λ c. answer c .code ≢ 0 → Refused (answer c)) [ zero ↦ λ d. absurd (d refl) | suc c ↦ λ d. search refl ]
+
 zero-count : (n : ℕ) (opens callouts : List ℕ) (words : ℕ) → countAnswer n n opens callouts words .code ≢ 0 → countAnswer n n opens callouts words .count ≡ 0
 unfolding countAnswer unless
 zero-count n opens callouts words =
@@ -149,6 +159,7 @@ demand1 =
       next-code = next-each _ next-number;
       list-code = list-each _ (λ e n o k. list-number n o k (e .started) (e .plan));
       fewest-code = fewest-each _ fewest-number;
+      cell-code = cell-each _ cell-number;
       usable-code = usable-each _ (λ n o k old. room-says n o k old n);
       count-code = count-each _ count-number;
       grade-code = grade-each _ grade-number;
@@ -171,6 +182,7 @@ demand1 =
       next-refused = next-each _ (λ n o k g. next-says n o k g .on-refusal);
       list-refused = list-each _ (λ e n o k. list-says n o k e .on-refusal);
       fewest-refused = fewest-each _ (λ n o k cap. fewest-says n o k cap .on-refusal);
+      cell-refused = cell-each _ zero-cell;
       count-refused = count-each _ (λ n o k tally. zero-count n o k (length tally));
       grade-refused = grade-each _ (λ n o k tally. grade-says n o k (length tally) .0);
       price-refused = price-each _ (λ n o k v tally. price-says n o k v (length tally) .0);

@@ -26,6 +26,8 @@ use Rattle.rota.proofs.plans.rota_next_plan as next
 use Rattle.rota.proofs.plans.rota_next_plan.Reads as next-reads
 use Rattle.rota.proofs.plans.rota_fewest_callouts as fewest
 use Rattle.rota.proofs.plans.rota_fewest_callouts.Reads as fewest-reads
+use Rattle.rota.proofs.plans.rota_cell_plan as cell
+use Rattle.rota.proofs.plans.rota_cell_plan.Reads as cell-reads
 use Rattle.rota.proofs.lister.rota_list_plan as list
 use Rattle.rota.proofs.usable.rota_usable_slots as usable
 use Rattle.rota.proofs.usable.rota_usable_slots.Reads as usable-reads
@@ -59,6 +61,11 @@ EachNext P = (κs : Lfts 2) (a : Args next.signature κs) (r : Res next.signatur
 unfoldable pub EachFewest : (ℕ → List ℕ → List ℕ → ℕ → PlanAnswer → Type 0) → Type 0
 EachFewest P = (κs : Lfts 2) (a : Args fewest.signature κs) (r : Res fewest.signature κs) (s : AtExit fewest.ended κs) → fewest-reads.Learnt κs a r s
     → P (a .0) (now (a .1 .0)) (now (a .1 .1 .0)) (a .1 .1 .1 .0) r
+
+-- a cell is its item and its slot
+unfoldable pub EachCell : (ℕ → List ℕ → List ℕ → ℕ → ℕ → PlanAnswer → Type 0) → Type 0
+EachCell P = (κs : Lfts 2) (a : Args cell.signature κs) (r : Res cell.signature κs) (s : AtExit cell.ended κs) → cell-reads.Learnt κs a r s
+    → P (a .0) (now (a .1 .0)) (now (a .1 .1 .0)) (a .1 .1 .1 .0) (a .1 .1 .1 .1 .0) r
 
 -- ---- the lister. Its call takes a `&mut` record, and what is known of it is read off its clauses
 
@@ -123,6 +130,7 @@ pub record AskNothing : Type 2 where
   pub first-plan : (κs : Lfts 2) (a : Args first.signature κs) → first-reads.Asked κs a
   pub next-plan : (κs : Lfts 2) (a : Args next.signature κs) → next-reads.Asked κs a
   pub fewest-callouts : (κs : Lfts 2) (a : Args fewest.signature κs) → fewest-reads.Asked κs a
+  pub cell-plan : (κs : Lfts 2) (a : Args cell.signature κs) → cell-reads.Asked κs a
   pub usable-slots : (κs : Lfts 3) (a : Args usable.signature κs) → usable-reads.Asked κs a
   pub count-plans : (κs : Lfts 3) (a : Args count.signature κs) → count-reads.Asked κs a
   pub grade : (κs : Lfts 3) (a : Args grade.signature κs) → grade-reads.Asked κs a

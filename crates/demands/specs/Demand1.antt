@@ -11,7 +11,7 @@ use lib.ListN.{take}
 use Rattle.model.specs.declared.PlanAnswer.{PlanAnswer}
 use Rattle.model.specs.Plans.{blank}
 use Rattle.model.specs.File.{blocksFor, itemsIn, opensIn, calloutsIn}
-use Rattle.demands.specs.Calls.{EachFirst, EachNext, EachFewest, EachList, EachUsable, EachCount, EachGrade, EachPrice, EachRead, EachWrite}
+use Rattle.demands.specs.Calls.{EachFirst, EachNext, EachFewest, EachCell, EachList, EachUsable, EachCount, EachGrade, EachPrice, EachRead, EachWrite}
 use Rattle.demands.specs.Calls.{EachFileFirst, EachFileNext, EachFileFewest, AskNothing}
 use Rattle.demands.specs.Tests.{FirstOf, test5, test6, test7, test8, test9, test10, test11, test15, tables, fileTests}
 
@@ -32,6 +32,7 @@ pub record Demand1 : Type 2 where
   pub list-code : EachList (λ e n opens callouts r e′.
       FirstOf (tables n opens callouts (cond (e .started) (test8 opens (e .plan .slots) ∷ test10 opens (e .plan .slots) ∷ []) (test9 opens ∷ []))) (r .code))
   pub fewest-code : EachFewest (λ n opens callouts cap r. FirstOf (tables n opens callouts (test9 opens ∷ test11 opens callouts cap ∷ [])) (r .code))
+  pub cell-code : EachCell (λ n opens callouts i j r. FirstOf (tables n opens callouts []) (r .code))
   pub usable-code : EachUsable (λ n opens callouts old r new. FirstOf (tables n opens callouts (test15 old n ∷ [])) r)
   pub count-code : EachCount (λ n opens callouts tally r new. FirstOf (tables n opens callouts (test5 n ∷ test6 n tally ∷ [])) (r .code))
   pub grade-code : EachGrade (λ n opens callouts tally r new. FirstOf (tables n opens callouts (test5 n ∷ test6 n tally ∷ test9 opens ∷ [])) (r .code))
@@ -50,6 +51,7 @@ pub record Demand1 : Type 2 where
   pub next-refused : EachNext (λ n opens callouts g r. r .code ≢ 0 → Refused r)
   pub list-refused : EachList (λ e n opens callouts r e′. r .code ≢ 0 → Refused r)
   pub fewest-refused : EachFewest (λ n opens callouts cap r. r .code ≢ 0 → Refused r)
+  pub cell-refused : EachCell (λ n opens callouts i j r. r .code ≢ 0 → Refused r)
   pub count-refused : EachCount (λ n opens callouts tally r new. r .code ≢ 0 → r .count ≡ 0)
   pub grade-refused : EachGrade (λ n opens callouts tally r new. r .code ≢ 0 → (r .grade ≡ 0) × (r .code ≢ 9 → (r .shortage ≡ 0) × (r .items ≡ 0)))
   pub price-refused : EachPrice (λ n opens callouts vehicles tally r new. r .code ≢ 0 → (r .cents ≡ 0) × (r .code ≢ 9 → (r .shortage ≡ 0) × (r .items ≡ 0)))

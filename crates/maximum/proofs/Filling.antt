@@ -5,15 +5,15 @@ use mathlib.Core.List.{List}
 use Prim.Native.Nat.{ℕ, _+_, _-_, _^_, _≤_, _<_, min}
 use native.Mathlib.Nat.{le-trans}
 use native.Mathlib.Omega.{arith}
-use lib.ListN.{length, getD, replicate, getD-replicate}
+use lib.ListN.{length, getD, set, replicate, getD-replicate}
 use lib.Pow.{pow-pos}
 use Rattle.words.specs.Word.{bit, with, without, minus, low, lowest}
-use Rattle.words.proofs.Bits.{bit-lt, bit-empty, bit-one-lt, bit-minus, bit-low, low-lt, bit-with, bit-with-other, with-lt, bit-without, bit-without-other}
+use Rattle.words.proofs.Bits.{bit-lt, bit-empty, bit-one-lt, bit-minus, bit-low, low-lt, bit-with, bit-with-other, with-lt, bit-without, bit-without-other, without-le}
 use Rattle.words.proofs.SetLaws.{bit-with-le, bit-without-le}
 use Rattle.words.proofs.Walk.{Walk, Turn, walk, turn}
-use Rattle.augment.specs.Table.{at, Table, Matched, Exposed}
+use Rattle.augment.specs.Table.{at, cell, Table, Matched, Exposed}
 use Rattle.augment.specs.Search.{Assignable, Assigned, Barred, Same}
-use Rattle.augment.proofs.Moves.{same-or}
+use Rattle.augment.proofs.Moves.{same-or, take}
 use Rattle.maximum.specs.Maximum.{Fillable, Dead, Filled}
 
 pub record Filling (w : List ℕ) (wanting : ℕ) (o p : List ℕ) (f e d left : ℕ) : Type 0 where
@@ -190,3 +190,19 @@ module _ (w : List ℕ) (few : length w ≤ 64) (range : (x : ℕ) → x < lengt
         exposed = λ x b M. omega (arith, M .held, bit-low 64 (at (replicate 64 0) x) (M .slot));
         matched = λ x h b. absurd (omega (arith, bit-low (length w) x h));
       })
+
+-- an item that wants a slot takes a free one that is open to it
+pub take-fillable : {w o p : List ℕ} {f wanting : ℕ} → Fillable w o p f wanting → (y h : ℕ) → bit wanting y ≡ 1 → h < 64 → bit f h ≡ 1 → cell w y h ≡ 1
+    → Fillable w (set o h y) (set p y h) (without f h) (without wanting y)
+take-fillable {w} {o} {p} {f} {wanting} F y h wants fits free may =
+    let t = take (F .table) y h (bit-one-lt (length w) wanting y (F .items) wants) (F .exposed y wants) fits free may in
+    record {
+      table = t .table;
+      items = omega (arith, F .items, without-le wanting y);
+      exposed = λ x b M. same-or x y
+          (λ e. omega (arith, ap (bit (without wanting y)) e, bit-without wanting y))
+          (λ d. F .exposed x (sym (bit-without-other wanting y x d) ∙ b) (t .new x d M));
+      matched = λ x l b. same-or x y
+          (λ e. rw e (t .holds))
+          (λ d. t .stay x (F .matched x l (sym (bit-without-other wanting y x d) ∙ b)));
+    }

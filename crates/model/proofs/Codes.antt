@@ -15,7 +15,7 @@ use Rattle.model.specs.Rota.{tableCode}
 use Rattle.model.specs.Fewest.{fewest}
 use Rattle.model.specs.Count.{count}
 use Rattle.model.specs.File.{itemsIn, slotsIn, opensIn, calloutsIn}
-use Rattle.model.specs.PlanAnswers.{refused, firstFrom, firstAnswer, nextFrom, nextAnswer, fewestFrom, fewestAnswer}
+use Rattle.model.specs.PlanAnswers.{refused, firstFrom, firstAnswer, nextFrom, nextAnswer, fewestFrom, fewestAnswer, cellAnswer}
 use Rattle.model.specs.CountAnswers.{countRefused, countCode, countAnswer}
 use Rattle.model.specs.PriceAnswers.{gradeRefused, gradeBy, gradeAnswer, priceRefused, priceBy, priceCode, priceAnswer}
 use Rattle.model.specs.FileAnswers.{readRefused, readCode, readAnswer, writeRefused, writeCode, writeAnswer, planFileCode, onFile}
@@ -36,6 +36,10 @@ module _ (n m : ℕ) (opens callouts : List ℕ) where
   pub fewest-code : (cap : ℕ) → fewestAnswer n m opens callouts cap .code ≡ orElse (tableCode n m opens callouts) (fewestFrom m opens callouts cap .code)
   unfolding fewestAnswer
   fewest-code cap = plan-code (tableCode n m opens callouts) (fewestFrom m opens callouts cap)
+
+  pub cell-code : (i j : ℕ) → cellAnswer n m opens callouts i j .code ≡ tableCode n m opens callouts
+  unfolding cellAnswer
+  cell-code i j = plan-code (tableCode n m opens callouts) _ ∙ or-none _
 
   module _ (words : ℕ) where
     pub count-code : countAnswer n m opens callouts words .code ≡ countCode n m opens callouts words

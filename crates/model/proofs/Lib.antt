@@ -7,6 +7,7 @@ pub mod Accepted
 pub mod Plans
 pub mod Permanent
 pub mod Deficiency
+pub mod CellPlans
 pub mod Allowed
 pub mod Fewest
 pub mod Laws

@@ -9,14 +9,15 @@ use lib.Pow.{pow-mono}
 use lib.Dec.{eqb}
 use lib.ListN.{length, getD}
 use Rattle.model.specs.Lists.{keep, any, same, before, least}
-use Rattle.model.specs.Sets.{union}
 use Rattle.model.specs.Rota.{tableCode}
-use Rattle.model.specs.Plans.{plans, isPlan, plansAfter}
+use Rattle.model.specs.Plans.{plans, blank, isPlan, plansAfter}
 use Rattle.model.specs.Fewest.{calloutsOf, fewest, fewestPlans}
+use Rattle.model.specs.CellPlans.{holds, cellPlan, cellPlans}
 use Rattle.model.specs.Allowed.{allowedWord}
 use Rattle.model.specs.PlanAnswers.{refused, firstOf, firstFrom, nextOf, nextFrom, fewestOf, fewestFrom}
 use Rattle.model.proofs.Order.{rising-same}
 use Rattle.model.proofs.Plans.{plans-rise, plan-from, plan-into}
+use Rattle.model.proofs.Allowed.{allowed-lt, allowed-into, allowed-from, allowed-by}
 use Rattle.model.proofs.Laws.{few, range}
 
 module _ (n m : ℕ) (opens callouts : List ℕ) (ok : tableCode n m opens callouts ≡ 0) (slots : m ≤ 64) where
@@ -47,6 +48,13 @@ module _ (n m : ℕ) (opens callouts : List ℕ) (ok : tableCode n m opens callo
   unfolding fewestFrom fewestPlans
   fewest-wide cap = ap₂ (λ k l. fewestOf opens cap k (keep (λ p. eqb (calloutsOf callouts p) k) l)) fewest-number-wide plans-wide
 
-  pub allowed-wide : (i : ℕ) → allowedWord 64 opens i ≡ allowedWord m opens i
-  unfolding allowedWord
-  allowed-wide i = ap (λ l. union (map (λ p. 2 ^ getD p i 0) l)) plans-wide
+  pub cell-wide : (i j : ℕ) → cellPlan 64 opens i j ≡ cellPlan m opens i j
+  unfolding cellPlan cellPlans
+  cell-wide i j = ap (λ l. getD (keep (holds (length opens) i j) l) 0 blank) plans-wide
+
+  pub allowed-wide : (i : ℕ) → i < length opens → allowedWord 64 opens i ≡ allowedWord m opens i
+  allowed-wide i h =
+      let f = few n m opens callouts ok in
+      let r = range n m opens callouts ok in
+      allowed-by 64 opens f wide i (allowedWord m opens i) h (lt-of-lt-of-le (allowed-lt m opens i) (pow-mono slots)) (allowed-from m opens f r i)
+      (λ p P. allowed-into m opens f r p P i h)

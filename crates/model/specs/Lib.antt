@@ -4,6 +4,7 @@ pub mod Sets
 pub mod Rota
 pub mod Plans
 pub mod Fewest
+pub mod CellPlans
 pub mod Allowed
 pub mod Deficiency
 pub mod Count

@@ -1,4 +1,4 @@
--- What the calls for the first, the next and the fewest-callout plan answer, over tables of n items and m slots. Assumes nothing.
+-- What the calls for the first, the next, the fewest-callout plan and a cell's plan answer, over tables of n items and m slots. Assumes nothing.
 use mathlib.Core.Bool.{cond}
 use mathlib.Core.List.{List, [], _∷_}
 use Prim.Native.Nat.{ℕ}
@@ -9,6 +9,7 @@ use Rattle.model.specs.Refusal.{unless}
 use Rattle.model.specs.Rota.{tableCode}
 use Rattle.model.specs.Plans.{plans, blank, isPlan, plansAfter}
 use Rattle.model.specs.Fewest.{fewest, fewestPlans}
+use Rattle.model.specs.CellPlans.{cellPlan}
 use Rattle.model.specs.Deficiency.{deficiency, deficientSet}
 
 -- ---- the records
@@ -77,3 +78,8 @@ fewestFrom m opens callouts cap = fewestOf opens cap (fewest m opens callouts) (
 unfoldable pub fewestAnswer : ℕ → ℕ → List ℕ → List ℕ → ℕ → PlanAnswer
 unfolding unless tableCode fewestFrom
 fewestAnswer n m opens callouts cap = unless refused (tableCode n m opens callouts) (fewestFrom m opens callouts cap)
+
+-- a cell's plan, which may be the blank one: no refusal but by the tables
+unfoldable pub cellAnswer : ℕ → ℕ → List ℕ → List ℕ → ℕ → ℕ → PlanAnswer
+unfolding unless tableCode cellPlan
+cellAnswer n m opens callouts i j = unless refused (tableCode n m opens callouts) (given (cellPlan m opens i j) 0)

@@ -4,11 +4,11 @@ use mathlib.Core.List.{List, [], _∷_, _++_}
 use Prim.Native.Nat.{ℕ, _+_, _*_}
 use lib.ListN.{length, getD, take, drop, replicate}
 use Rattle.model.specs.declared.Edition.{Edition}
-use Rattle.model.specs.Plans.{plans}
+use Rattle.model.specs.Plans.{plans, blank}
 use Rattle.model.specs.Allowed.{allowedWords}
 use Rattle.model.specs.Count.{permanent, subsetCounts}
 use Rattle.model.specs.File.{fileBytes, fileCode, itemsIn, opensIn, calloutsIn}
-use Rattle.model.specs.PlanAnswers.{firstAnswer, nextAnswer, fewestAnswer, given, refused, short, overCap}
+use Rattle.model.specs.PlanAnswers.{firstAnswer, nextAnswer, fewestAnswer, cellAnswer, given, refused, short, overCap}
 use Rattle.model.specs.CountAnswers.{countAnswer}
 use Rattle.model.specs.PriceAnswers.{gradeAnswer, priceAnswer}
 use Rattle.model.specs.ListingText.{listingText}
@@ -49,10 +49,20 @@ pub record Rows : Type 0 where
   pub none-usable : allowedWords 1 (0 ∷ []) ≡ 0 ∷ []
   pub none-count : countAnswer 1 1 (0 ∷ []) (none 1) 2 ≡ record { code = 0; count = 0 }
   pub none-first : firstAnswer 1 1 (0 ∷ []) (none 1) ≡ short 1 1
+  pub T-cell : cellAnswer 3 3 T-opens T-callouts 1 2 ≡ given (slots 0 2 1) 0
+  pub T-cell-shared : cellAnswer 3 3 T-opens T-callouts 2 2 ≡ given (slots 0 1 2) 0
+  pub T-cell-closed : cellAnswer 3 3 T-opens T-callouts 0 2 ≡ given blank 0
+  pub T-item-outside : cellAnswer 3 3 T-opens T-callouts 3 0 ≡ given blank 0
+  pub T-slot-outside : cellAnswer 3 3 T-opens T-callouts 0 3 ≡ given blank 0
+  pub two-cell-unused : cellAnswer 3 3 two-opens (none 3) 0 1 ≡ given blank 0
+  -- item and slot are not exchanged
+  pub turned-cell : cellAnswer 3 3 (2 ∷ 5 ∷ 5 ∷ []) (none 3) 1 2 ≡ given (slots 1 2 0) 0
+  pub turned-cell-closed : cellAnswer 3 3 (2 ∷ 5 ∷ 5 ∷ []) (none 3) 2 1 ≡ given blank 0
+  pub none-cell : cellAnswer 1 1 (0 ∷ []) (none 1) 0 0 ≡ given blank 0
   pub T-last : nextAnswer 3 3 T-opens T-callouts (record { slots = slots 1 0 2 }) ≡ refused 10
 
 pub rows : Rows
-unfolding plans countAnswer fewestAnswer gradeAnswer priceAnswer allowedWords firstAnswer nextAnswer
+unfolding plans countAnswer fewestAnswer gradeAnswer priceAnswer allowedWords firstAnswer nextAnswer cellAnswer
 rows = search refl
 
 -- T's file is one block, its check 338: byte 510 is 82 and byte 511 is 1; and back

@@ -8,14 +8,15 @@ use lib.ListN.{length, take, drop}
 use lib.Seq.{ext-getD, getD-take, length-take-le}
 use Rattle.model.specs.declared.Plan.{Plan}
 use Rattle.model.specs.Rota.{tableCode}
+use Rattle.model.specs.CellPlans.{cellPlan}
 use Rattle.model.specs.Allowed.{allowedWords}
 use Rattle.model.specs.Refusal.{roomCode}
-use Rattle.model.specs.PlanAnswers.{refused, firstFrom, firstAnswer, nextFrom, nextAnswer, fewestFrom, fewestAnswer}
+use Rattle.model.specs.PlanAnswers.{given, refused, firstFrom, firstAnswer, nextFrom, nextAnswer, fewestFrom, fewestAnswer, cellAnswer}
 use Rattle.model.specs.UsableAnswers.{usableCode, usableAfter}
 use Rattle.model.proofs.Accepted.{tables-from}
 use Rattle.model.proofs.Laws.{few}
 use Rattle.model.proofs.Refusals.{or-later, stops, room-enough, room-short, refused-answer, accepted-answer, nothing-written, all-written}
-use Rattle.model.proofs.Slots.{first-wide, next-wide, fewest-wide, allowed-wide}
+use Rattle.model.proofs.Slots.{first-wide, next-wide, fewest-wide, cell-wide, allowed-wide}
 use Rattle.model.proofs.Allowed.{length-allowed, allowed-at}
 use Rattle.components.specs.Component.{AllowedTable}
 
@@ -45,6 +46,10 @@ module _ (n m : ℕ) (opens callouts : List ℕ) (c : ℕ) (e : c ≡ tableCode 
   unfolding fewestAnswer
   fewest-refused cap = refused-answer c _ d (sym e) refused _
 
+  pub cell-refused : (i j : ℕ) → refused c ≡ cellAnswer n m opens callouts i j
+  unfolding cellAnswer
+  cell-refused i j = refused-answer c _ d (sym e) refused _
+
 module _ {n m : ℕ} {opens callouts : List ℕ} (p : Passed n m opens callouts) where
   pub few-items : length opens ≤ 64
   few-items = few n m opens callouts (p .code)
@@ -63,6 +68,10 @@ module _ {n m : ℕ} {opens callouts : List ℕ} (p : Passed n m opens callouts)
   pub fewest-found : (cap : ℕ) → fewestFrom 64 opens callouts cap ≡ fewestAnswer n m opens callouts cap
   unfolding fewestAnswer
   fewest-found cap = fewest-wide n m opens callouts (p .code) (p .slots) cap ∙ accepted-answer _ (p .code) refused _
+
+  pub cell-found : (i j : ℕ) → given (cellPlan 64 opens i j) 0 ≡ cellAnswer n m opens callouts i j
+  unfolding cellAnswer
+  cell-found i j = ap (λ q. given q 0) (cell-wide n m opens callouts (p .code) (p .slots) i j) ∙ accepted-answer _ (p .code) refused _
 
 -- ---- the usable table
 
@@ -93,7 +102,7 @@ module _ (n m : ℕ) (opens callouts old : List ℕ) where
         let l : length (take n r) ≡ n = length-take-le n r (enough p A) in
         ext-getD 0 (take n r) (allowedWords m opens) (l ∙ sym (length-allowed m opens ∙ t .open-words)) (λ i h.
         let g : i < length opens = omega (arith, t .open-words) in
-        getD-take n r i 0 (omega arith) ∙ A .word i g ∙ allowed-wide n m opens callouts (p .code) (p .slots) i ∙ sym (allowed-at m opens i g))
+        getD-take n r i 0 (omega arith) ∙ A .word i g ∙ allowed-wide n m opens callouts (p .code) (p .slots) i g ∙ sym (allowed-at m opens i g))
 
     pub usable-done : {r : List ℕ} → AllowedTable opens r → n ≤ length old → {new : List ℕ} → new ≡ take n r ++ drop (length (take n r)) old
         → Usable n m opens callouts old 0 new

@@ -1,6 +1,6 @@
-// The first, the next and the fewest-callout plan of a rota.
+// The first, the next and the fewest-callout plan of a rota, and the plan that uses a cell.
 ghost use mathlib.Core.Path.{_≡_};
-ghost use Rattle.model.specs.PlanAnswers.{firstAnswer, nextAnswer, fewestAnswer};
+ghost use Rattle.model.specs.PlanAnswers.{firstAnswer, nextAnswer, fewestAnswer, cellAnswer};
 use model::Plan;
 use model::PlanAnswer;
 
@@ -48,4 +48,22 @@ pub extern "C" fn rota_fewest_callouts(
         return answers::refused(code);
     }
     min_cost::fewest_plan(opens, callouts, cap)
+}
+
+// The first plan that holds the item's cell of that slot; the blank plan where none does, with 0 too.
+#[no_mangle]
+pub extern "C" fn rota_cell_plan(
+    n: usize,
+    opens: &[u64],
+    callouts: &[u64],
+    item: usize,
+    slot: usize,
+) -> PlanAnswer
+    ensures { λ r. ⌜ r ≡ cellAnswer n n (now (opens .entry)) (now (callouts .entry)) item slot ⌝ }
+{
+    let code = acceptance::table_code(n, n, opens, callouts);
+    if code != 0 {
+        return answers::refused(code);
+    }
+    cell::cell_plan(opens, item, slot)
 }

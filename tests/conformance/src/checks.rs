@@ -4,7 +4,7 @@ use crate::lent::Lent;
 use crate::reference::answers::{Call, Input};
 use crate::reference::rota_file;
 use crate::reference::Known;
-use crate::rota::Plan;
+use crate::rota::{Cell, Plan};
 use crate::session::{agree, differing, Outcome, Session};
 use crate::wrappers::{LentLister, LentTables};
 
@@ -113,6 +113,19 @@ impl Session {
         let code = input.refusal();
         let written = if code == 0 { known.usable() } else { &[] };
         agree(&input, [differing(&code, &got), tables.changed(), usable.differs(written)])
+    }
+
+    /// A case for each cell; the tables are lent once for all of them.
+    pub fn cell_plans(&mut self, known: &Known, cells: impl IntoIterator<Item = Cell>) -> Outcome {
+        let mut tables = self.lend(known);
+        for cell in cells {
+            let input = Input { cell, ..Input::new(Call::CellPlan, known) };
+            self.case(input.call);
+            self.making(&input);
+            let got = self.calls.cell(&mut tables, cell);
+            agree(&input, [differing(&input.plan_answer(input.refusal()), &got), tables.changed()])?;
+        }
+        Ok(())
     }
 
     /// What a call on a tally leaves in it.

@@ -104,6 +104,10 @@ calls! {
         n: usize, opens: *const u64, opens_len: usize, callouts: *const u64, callouts_len: usize,
         usable: *mut u64, usable_len: usize
     ) -> u32;
+    cell_plan rota_cell_plan(
+        n: usize, opens: *const u64, opens_len: usize, callouts: *const u64, callouts_len: usize,
+        item: usize, slot: usize
+    ) -> PlanAnswer;
     count_plans rota_count_plans(
         n: usize, opens: *const u64, opens_len: usize, callouts: *const u64, callouts_len: usize,
         tally: *mut u64, tally_len: usize

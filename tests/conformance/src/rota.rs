@@ -5,8 +5,11 @@ use std::fmt;
 /// Byte i is item i's slot, bytes from n on are 0.
 pub type Plan = [u8; 64];
 
-/// The plan of a refusal.
+/// The plan of a refusal, and of a cell that no complete plan holds.
 pub const BLANK: Plan = [255; 64];
+
+/// An item and a slot; they may be any numbers.
+pub type Cell = (usize, usize);
 
 #[derive(Clone, PartialEq, Eq, Debug)]
 pub struct Tables {

@@ -3,7 +3,7 @@
 use crate::interface::*;
 use crate::lent::Lent;
 use crate::random::Random;
-use crate::rota::{Plan, Tables};
+use crate::rota::{Cell, Plan, Tables};
 
 /// A rota's two tables. Equal ones are sometimes lent as one.
 pub struct LentTables {
@@ -79,6 +79,11 @@ impl Calls {
     pub fn usable(&self, tables: &mut LentTables, usable: &mut Lent<u64>) -> u32 {
         let (n, opens, opens_len, callouts, callouts_len) = tables.arguments();
         unsafe { (self.usable_slots)(n, opens, opens_len, callouts, callouts_len, usable.pointer(), usable.len()) }
+    }
+
+    pub fn cell(&self, tables: &mut LentTables, (item, slot): Cell) -> PlanAnswer {
+        let (n, opens, opens_len, callouts, callouts_len) = tables.arguments();
+        unsafe { (self.cell_plan)(n, opens, opens_len, callouts, callouts_len, item, slot) }
     }
 
     pub fn count(&self, tables: &mut LentTables, tally: &mut Lent<u64>) -> CountAnswer {

@@ -1,8 +1,9 @@
-//! Plans to hand over: complete ones from all over the dictionary, and records that are no complete plan.
+//! Plans to hand over: complete ones from all over the dictionary, and records that are no complete plan. Cells, inside the rota
+//! and not.
 
 use crate::random::Random;
 use crate::reference::{matching, Known};
-use crate::rota::{plan_of, Plan, Tables, BLANK};
+use crate::rota::{plan_of, Cell, Plan, Tables, BLANK};
 
 pub const KINDS: usize = 14;
 
@@ -59,4 +60,24 @@ pub fn plan(kind: usize, known: &Known, random: &mut Random) -> Plan {
         _ => {}
     }
     plan
+}
+
+/// Cells over accepted tables, all of one item: of the last plan, an open one, any; then cells outside which modulo n, 64 or
+/// another power of 2 are that of the last plan.
+pub fn cells(known: &Known, random: &mut Random) -> Vec<Cell> {
+    let n = known.n();
+    let item = random.below(n);
+    let slot = known.last().map_or(0, |plan| plan[item].into());
+    let open = random.pick(&[&known.tables.open_slots()[item][..], &[slot]].concat());
+    let mut list = vec![(item, slot), (item, open), (item, random.below(n))];
+    for beyond in [n, 64, 1 << random.pick(&[8, 16, 32, 63])] {
+        list.extend([(item + beyond, slot), (item, slot + beyond)]);
+    }
+    list
+}
+
+/// Cells for tables that are refused: at the beginning, anywhere, and outside.
+pub fn any_cells(random: &mut Random) -> [Cell; 4] {
+    let (item, slot) = (random.below(64), random.below(64));
+    [(0, 0), (item, slot), (usize::MAX, slot), (item, usize::MAX)]
 }

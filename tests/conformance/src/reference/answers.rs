@@ -2,7 +2,7 @@
 
 use super::{pricing, rota_file, Known};
 use crate::interface::{CountAnswer, GradeAnswer, PlanAnswer, PlanRecord, PriceAnswer, ReadAnswer, WriteAnswer};
-use crate::rota::{plan_text, Plan, BLANK};
+use crate::rota::{plan_text, Cell, Plan, BLANK};
 use std::fmt;
 
 pub const GREATEST_COUNTED: usize = 20;
@@ -15,6 +15,7 @@ pub enum Call {
     ListPlan,
     FewestCallouts,
     UsableSlots,
+    CellPlan,
     CountPlans,
     Grade,
     MonthlyPrice,
@@ -27,12 +28,13 @@ pub enum Call {
 
 use Call::*;
 
-pub const CALLS: [Call; 13] = [
+pub const CALLS: [Call; 14] = [
     FirstPlan,
     NextPlan,
     ListPlan,
     FewestCallouts,
     UsableSlots,
+    CellPlan,
     CountPlans,
     Grade,
     MonthlyPrice,
@@ -51,6 +53,7 @@ impl Call {
             ListPlan => "rota_list_plan",
             FewestCallouts => "rota_fewest_callouts",
             UsableSlots => "rota_usable_slots",
+            CellPlan => "rota_cell_plan",
             CountPlans => "rota_count_plans",
             Grade => "rota_grade",
             MonthlyPrice => "rota_monthly_price",
@@ -71,6 +74,7 @@ impl Call {
             ListPlan => &[1, 2, 3, 4, 9],
             FewestCallouts => &[1, 2, 3, 4, 9, 11],
             UsableSlots | WriteFile => &[1, 2, 3, 4, 15],
+            CellPlan => &[1, 2, 3, 4],
             CountPlans => &[1, 2, 3, 4, 5, 6],
             Grade => &[1, 2, 3, 4, 5, 6, 9],
             MonthlyPrice => &[1, 2, 3, 4, 5, 6, 7, 9],
@@ -90,6 +94,7 @@ pub struct Input<'a> {
     pub given: Plan,
     pub started: bool,
     pub cap: u32,
+    pub cell: Cell,
     pub vehicles: u64,
     pub tally_words: usize,
     /// The lengths of the lent outputs other than the tally.
@@ -98,8 +103,8 @@ pub struct Input<'a> {
 
 impl<'a> Input<'a> {
     pub fn new(call: Call, known: &'a Known) -> Self {
-        let (given, room) = (BLANK, [0, 0]);
-        Input { call, known, file: &[], given, started: false, cap: 0, vehicles: 0, tally_words: 0, room }
+        let (given, cell, room) = (BLANK, (0, 0), [0, 0]);
+        Input { call, known, file: &[], given, started: false, cap: 0, cell, vehicles: 0, tally_words: 0, room }
     }
 
     /// The refusal by the order of document 01, 0 if there is none.
@@ -150,6 +155,7 @@ impl<'a> Input<'a> {
             NextPlan | FileNextPlan => self.known.next(&self.given),
             ListPlan if self.started => self.known.next(&self.given),
             FewestCallouts | FileFewestCallouts => self.known.fewest().map(|(_, plan)| plan),
+            CellPlan => self.known.cell_plan(self.cell).or(Some(BLANK)),
             _ => self.known.first(),
         };
         plan.expect("a call that is not refused gives a plan")
@@ -218,12 +224,13 @@ impl fmt::Display for Input<'_> {
             NextPlan | FileNextPlan => writeln!(f, "  given {}", plan_text(&self.given))?,
             ListPlan => writeln!(f, "  lister started {}, plan {}", self.started, plan_text(&self.given))?,
             MonthlyPrice => writeln!(f, "  vehicles {}", self.vehicles)?,
+            CellPlan => writeln!(f, "  item {}, slot {}", self.cell.0, self.cell.1)?,
             _ => {}
         }
         match self.call {
             CountPlans | Grade | MonthlyPrice => write!(f, "  tally of {} words", self.tally_words),
             ReadFile => write!(f, "  tables of {} and {} words", self.room[0], self.room[1]),
-            FirstPlan | NextPlan | ListPlan | FewestCallouts => write!(f, "  no output lent"),
+            FirstPlan | NextPlan | ListPlan | FewestCallouts | CellPlan => write!(f, "  no output lent"),
             _ => write!(f, "  output of {} elements", self.room[0]),
         }
     }

@@ -1,6 +1,6 @@
 //! Document 01's definitions by brute force, for rotas of at most seven items: all permutations, filtered.
 
-use crate::rota::{has, plan_of, Plan, Tables};
+use crate::rota::{has, plan_of, Cell, Plan, Tables};
 use std::sync::OnceLock;
 
 pub const GREATEST_N: usize = 7;
@@ -43,6 +43,12 @@ pub fn usable(rota: &Tables, plans: &[Plan]) -> Vec<u64> {
         }
     }
     words
+}
+
+/// The first plan that gives the item the slot.
+pub fn cell_plan(rota: &Tables, plans: &[Plan], cell: Cell) -> Option<Plan> {
+    let held = |plan: &&Plan| (0..rota.n).any(|item| (item, usize::from(plan[item])) == cell);
+    plans.iter().find(held).copied()
 }
 
 /// A set's size less the number of slots open to any of it.

@@ -1,7 +1,7 @@
 //! Perfect matchings of any size by augmenting paths over vectors: an item is given a slot, and the one that had it looks for
 //! another.
 
-use crate::rota::{plan_of, word_of, Plan, Tables};
+use crate::rota::{plan_of, word_of, Cell, Plan, Tables};
 
 /// A matching; the slots' side is kept beside it.
 #[derive(Clone)]
@@ -144,6 +144,16 @@ pub fn usable(rota: &Tables) -> Vec<u64> {
     let held = |item: usize, slot: usize| force(&adjacent, &matching, item, slot, &none).is_some();
     let row = |item: usize| word_of(adjacent[item].iter().copied().filter(|&slot| held(item, slot)));
     (0..rota.n).map(row).collect()
+}
+
+/// The first plan of the rota in which the item has no other slot open.
+pub fn cell_plan(rota: &Tables, (item, slot): Cell) -> Option<Plan> {
+    if item >= rota.n || !rota.is_open(item, slot) {
+        return None;
+    }
+    let mut opens = rota.opens.clone();
+    opens[item] = 1 << slot;
+    first(&Tables::open(&opens))
 }
 
 /// The items reached by alternating paths from those that a maximum matching leaves out, and how many it leaves out.

@@ -9,7 +9,7 @@ pub mod permanent;
 pub mod pricing;
 pub mod rota_file;
 
-use crate::rota::{low, Plan, Tables};
+use crate::rota::{low, Cell, Plan, Tables};
 use std::cell::OnceCell;
 
 /// How the facts about a rota are found.
@@ -103,6 +103,14 @@ impl Known {
             true => definitions::usable(&self.tables, self.plans()),
             false => matching::usable(&self.tables),
         })
+    }
+
+    /// The first complete plan that gives the item the slot.
+    pub fn cell_plan(&self, cell: Cell) -> Option<Plan> {
+        match self.defined() {
+            true => definitions::cell_plan(&self.tables, self.plans(), cell),
+            false => matching::cell_plan(&self.tables, cell),
+        }
     }
 
     pub fn shortage(&self) -> (u64, u32) {

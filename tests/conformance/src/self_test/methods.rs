@@ -4,7 +4,7 @@ use crate::inputs::{families, given};
 use crate::random::Random;
 use crate::reference::answers::{Call, Input};
 use crate::reference::{assignment, definitions, layers, matching, permanent, rota_file, Known, Method};
-use crate::rota::{low, plan_of, Plan, Tables};
+use crate::rota::{low, plan_of, Plan, Tables, BLANK};
 
 /// Compares and counts; a difference ends the program.
 pub fn run() -> u64 {
@@ -42,6 +42,10 @@ fn with_definitions(rota: &Tables) -> u64 {
         compared += same!(rota, "next plan", matching::next(rota, plan), plans.get(place + 1).copied());
     }
     compared += same!(rota, "usable table", matching::usable(rota), definitions::usable(rota, &plans));
+    for cell in (0..=rota.n).flat_map(|item| (0..=rota.n).map(move |slot| (item, slot))) {
+        let plan = definitions::cell_plan(rota, &plans, cell);
+        compared += same!(rota, format!("plan of {cell:?}"), matching::cell_plan(rota, cell), plan);
+    }
     let short = definitions::shortage(rota);
     compared += same!(rota, "shortage", matching::shortage(rota), short);
     compared += same!(rota, "shortage by removal", matching::shortage_by_removal(rota), short);
@@ -80,6 +84,14 @@ fn with_layers(rota: &Tables, random: &mut Random) -> u64 {
     others.remove(item);
     let minor = rota.is_open(item, slot) && permanent::permanent(&others, low(rota.n) & !(1 << slot)) > 0;
     compared += same!(rota, "usable cell", matching::usable(rota)[item] >> slot & 1 == 1, minor);
+    let held = matching::cell_plan(rota, (item, slot));
+    compared += same!(rota, "whether a plan holds the cell", held.is_some(), minor);
+    if let Some(plan) = held {
+        let mut with_cell = rota.clone();
+        with_cell.opens[item] = 1 << slot;
+        assert!(matching::is_plan(&with_cell, &plan), "a complete plan that holds the cell of\n{rota}");
+        compared += same!(rota, "plans before it that hold the cell", rank(&with_cell, &plan), 0);
+    }
     if let (Some(first), Some(last)) = (known.first(), known.last()) {
         compared += same!(rota, "place of the first plan", rank(rota, &first), 0);
         compared += same!(rota, "place of the last plan", rank(rota, &last), count - 1);
@@ -111,6 +123,11 @@ fn with_each_other(rota: &Tables, random: &mut Random) -> u64 {
             same!(rota, "the fewest callouts", callouts > number || callouts == number && cheapest <= plan, true);
         let held = (0..rota.n).all(|item| known.usable()[item] >> plan[item] & 1 == 1);
         compared += same!(rota, "a plan's cells are usable", held, true);
+        let item = random.below(rota.n);
+        let least = known.cell_plan((item, plan[item].into())).expect("the plan holds it");
+        compared += same!(rota, "the first plan of a cell is one", matching::is_plan(rota, &least), true);
+        compared += same!(rota, "the first plan of a cell holds it", least[item], plan[item]);
+        compared += same!(rota, "the first plan of a cell is the least", first <= least && least <= plan, true);
     }
     compared
 }
@@ -125,6 +142,9 @@ fn worked_rows() -> u64 {
         compared += same!(t.tables, "first", t.first(), Some(plans[0]));
         compared += same!(t.tables, "next", (t.next(&plans[0]), t.next(&plans[1])), (Some(plans[1]), Some(plans[2])));
         compared += same!(t.tables, "next", t.next(&plans[2]), None);
+        let cells = [(0, 0), (1, 1), (2, 1), (1, 0), (0, 2), (3, 0), (0, usize::MAX)].map(|cell| t.cell_plan(cell));
+        let held = [0, 0, 1, 2].map(|place| Some(plans[place]));
+        compared += same!(t.tables, "cells", (&cells[..4], &cells[4..]), (&held[..], &[None; 3][..]));
         compared += same!(t.tables, "count", t.count(), 3);
         compared += same!(t.tables, "fewest", t.fewest(), Some((1, plans[1])));
         let priced = Input { vehicles: 100, tally_words: 8, ..Input::new(Call::MonthlyPrice, &t) };
@@ -135,11 +155,14 @@ fn worked_rows() -> u64 {
         let two = by(Tables::open(&[7, 6, 6]));
         compared += same!(two.tables, "plans", (two.first(), two.last()), (Some(plans[0]), Some(plans[1])));
         compared += same!(two.tables, "usable", two.usable(), [1, 6, 6]);
+        compared += same!(two.tables, "cells", (two.cell_plan((0, 1)), two.cell_plan((1, 2))), (None, Some(plans[1])));
         compared += same!(two.tables, "grade", Input::new(Call::Grade, &two).grade_answer(0).grade, 3);
         let four = by(Tables::open(&[1, 1, 2, 14]));
         compared += same!(four.tables, "shortage", (four.first(), four.shortage()), (None, (3, 1)));
         let none = by(Tables::open(&[0, 3]));
         compared += same!(none.tables, "shortage", (none.first(), none.shortage()), (None, (1, 1)));
+        let cell = Input { cell: (1, 0), ..Input::new(Call::CellPlan, &none) };
+        compared += same!(none.tables, "no refusal", (cell.refusal(), cell.plan_answer(0).plan.slots), (0, BLANK));
         let one = by(Tables::open(&[1]));
         compared += same!(
             one.tables,

@@ -44,7 +44,7 @@ impl Reply {
         (reply.items, reply.shortage) = input.short(code);
         let tables = &input.known.tables;
         match input.call {
-            Call::FirstPlan | Call::NextPlan | Call::ListPlan | Call::FewestCallouts => {
+            Call::FirstPlan | Call::NextPlan | Call::ListPlan | Call::FewestCallouts | Call::CellPlan => {
                 let answer = input.plan_answer(code);
                 (reply.callouts, reply.plan) = (answer.callouts, answer.plan.slots);
                 if code == 0 {

@@ -14,6 +14,7 @@ pub fn calls() -> Calls {
         list_plan,
         fewest_callouts,
         usable_slots,
+        cell_plan,
         count_plans,
         grade,
         monthly_price,
@@ -127,6 +128,18 @@ unsafe extern "C" fn usable_slots(
     let reply = Lending(n, o, o_len, c, c_len).reply(Call::UsableSlots, Some(output), |input| input.room[0] = len);
     store(usable, &reply.words);
     reply.code
+}
+
+unsafe extern "C" fn cell_plan(
+    n: usize,
+    o: *const u64,
+    o_len: usize,
+    c: *const u64,
+    c_len: usize,
+    item: usize,
+    slot: usize,
+) -> PlanAnswer {
+    plan_answer(&Lending(n, o, o_len, c, c_len).reply(Call::CellPlan, None, |input| input.cell = (item, slot)))
 }
 
 unsafe extern "C" fn count_plans(

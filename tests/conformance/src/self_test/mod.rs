@@ -6,6 +6,7 @@ mod mock;
 pub mod mock_calls;
 mod systematic;
 mod wrong;
+mod wrong_cells;
 mod wrong_files;
 
 use crate::parallel::{processors, spread};

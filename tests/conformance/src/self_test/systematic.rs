@@ -49,7 +49,7 @@ fn fields(call: Call) -> Vec<Field> {
     let items: Field = ("items", |reply| reply.items ^= 1 << 63);
     let number: Field = ("number", |reply| reply.number += 1);
     match call {
-        FirstPlan | NextPlan | ListPlan | FewestCallouts => vec![
+        FirstPlan | NextPlan | ListPlan | FewestCallouts | CellPlan => vec![
             shortage,
             items,
             ("callouts", |reply| reply.callouts += 1),
@@ -75,7 +75,7 @@ fn other_fields(call: Call, code: u32, list: &mut Vec<Fault>) {
 /// How many buffers are lent, and which of them are outputs.
 fn buffers(call: Call) -> (usize, &'static [usize]) {
     match call {
-        FirstPlan | NextPlan | FewestCallouts => (2, &[]),
+        FirstPlan | NextPlan | FewestCallouts | CellPlan => (2, &[]),
         ListPlan | UsableSlots | CountPlans | Grade | MonthlyPrice | WriteFile => (3, &[2]),
         ReadFile => (3, &[1, 2]),
         FileFirstPlan | FileNextPlan | FileFewestCallouts => (2, &[1]),

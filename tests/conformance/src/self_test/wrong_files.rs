@@ -267,8 +267,18 @@ fn table_faults() -> Vec<Fault> {
             }
         })
     };
-    let on_tables =
-        [FirstPlan, NextPlan, ListPlan, FewestCallouts, UsableSlots, CountPlans, Grade, MonthlyPrice, WriteFile];
+    let on_tables = [
+        FirstPlan,
+        NextPlan,
+        ListPlan,
+        FewestCallouts,
+        UsableSlots,
+        CellPlan,
+        CountPlans,
+        Grade,
+        MonthlyPrice,
+        WriteFile,
+    ];
     let mut list: Vec<Fault> =
         on_tables.iter().flat_map(|&call| [longer(call), short(call), each(call), n(call)]).collect();
     list.extend([ReadFile, FileFirstPlan, FileNextPlan, FileFewestCallouts].map(each));

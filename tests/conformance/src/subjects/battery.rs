@@ -6,6 +6,7 @@ use crate::random::Random;
 use crate::reference::answers::GREATEST_COUNTED;
 use crate::reference::rota_file::{blocks_for, BLOCK};
 use crate::reference::Known;
+use crate::rota::Cell;
 use crate::session::{Outcome, Session};
 
 /// Fleet sizes at the bounds of the rules, and beyond 32 bits.
@@ -19,7 +20,8 @@ pub fn every_call(session: &mut Session, known: &Known, random: &mut Random) -> 
     let plans: Vec<_> = (0..given::KINDS).map(|kind| given::plan(kind, known, random)).collect();
     let fewest = known.fewest().map_or(0, |(number, _)| number);
     let caps = [fewest.wrapping_sub(1), fewest, fewest + 1, 0, u32::MAX, random.below(65) as u32];
-    calls_on_tables(session, known, &plans, &caps, random)?;
+    let cells = given::cells(known, random);
+    calls_on_tables(session, known, &plans, &caps, &cells, random)?;
     calls_on_file(session, &KnownFile::of(known), &plans, &caps, random)
 }
 
@@ -29,6 +31,7 @@ pub fn calls_on_tables(
     known: &Known,
     plans: &[[u8; 64]],
     caps: &[u32],
+    cells: &[Cell],
     random: &mut Random,
 ) -> Outcome {
     session.first_plan(known)?;
@@ -44,6 +47,7 @@ pub fn calls_on_tables(
     for words in lengths(known.n().min(64), random) {
         session.usable_slots(known, words)?;
     }
+    session.cell_plans(known, cells.iter().copied())?;
     for bytes in lengths(BLOCK * blocks_for(known.n()), random) {
         session.write_file(known, bytes)?;
     }

@@ -1,6 +1,7 @@
 //! What is tried, subject by subject. Each has a random stream of its own.
 
 mod battery;
+mod cells;
 mod counts;
 mod damage;
 mod files;
@@ -16,10 +17,11 @@ use crate::session::{Outcome, Session};
 
 type Subject = fn(&mut Session, &mut Random) -> Outcome;
 
-const SUBJECTS: [(&str, Subject); 9] = [
+const SUBJECTS: [(&str, Subject); 10] = [
     ("worked", worked::run),
     ("refusals", refusals::run),
     ("small", small::run),
+    ("cells", cells::run),
     ("listings", listings::run),
     ("prices", prices::run),
     ("files", files::run),

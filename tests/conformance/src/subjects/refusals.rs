@@ -40,7 +40,8 @@ fn plans(random: &mut Random) -> Vec<[u8; 64]> {
 fn refused_tables(session: &mut Session, n: usize, faults: usize, random: &mut Random) -> Outcome {
     let known = Known::new(refused::tables(n, faults, random));
     let plans = plans(random);
-    battery::calls_on_tables(session, &known, &plans, &[0, 64], random)
+    let cells = given::any_cells(random);
+    battery::calls_on_tables(session, &known, &plans, &[0, 64], &cells, random)
 }
 
 fn refused_file(session: &mut Session, n: usize, faults: usize, random: &mut Random) -> Outcome {
@@ -58,7 +59,8 @@ fn wrong_lengths(session: &mut Session, random: &mut Random) -> Outcome {
                 tables.opens.resize(length, 1);
                 tables.callouts.resize(other, 0);
                 let plans = plans(random);
-                battery::calls_on_tables(session, &Known::new(tables), &plans, &[0], random)?;
+                let cells = given::any_cells(random);
+                battery::calls_on_tables(session, &Known::new(tables), &plans, &[0], &cells, random)?;
             }
         }
     }

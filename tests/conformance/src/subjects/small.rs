@@ -71,6 +71,7 @@ fn few_calls(session: &mut Session, known: &Known, random: &mut Random) -> Outco
         session.fewest_callouts(known, cap)?;
     }
     session.usable_slots(known, known.n())?;
+    session.cell_plans(known, [(random.below(known.n()), random.below(known.n()))])?;
     session.count_plans(known, 1 << known.n())?;
     session.grade(known, 1 << known.n())?;
     let vehicles = battery::fleet(random);

@@ -33,5 +33,5 @@ pub fn run(session: &mut Session, random: &mut Random) -> Outcome {
 }
 
 fn refused(session: &mut Session, tables: Tables, random: &mut Random) -> Outcome {
-    battery::calls_on_tables(session, &Known::new(tables), &[[0; 64]], &[0], random)
+    battery::calls_on_tables(session, &Known::new(tables), &[[0; 64]], &[0], &[(0, 0), (64, 0)], random)
 }
