@@ -11,13 +11,14 @@ use lib.Seq.{ext-getD}
 use Rattle.words.specs.Word.{bit}
 use Rattle.words.specs.Sum.{below}
 use Rattle.words.proofs.Bits.{ext, bit-cases, bit-one-lt}
+use Rattle.words.proofs.SetLaws.{empty}
 use Rattle.words.proofs.Sums.{map-below, length-map-below, below-from, below-into}
 use Rattle.model.specs.Lists.{keep, same}
 use Rattle.model.specs.Sets.{union}
 use Rattle.model.specs.Plans.{plans, blank, IsPlan}
 use Rattle.model.specs.CellPlans.{holds, cellPlan, cellPlans}
 use Rattle.model.specs.Allowed.{allowed, allowedWord, allowedWords}
-use Rattle.model.proofs.Members.{is-true, same-refl, same-eq, keep-from, keep-into, keep-none}
+use Rattle.model.proofs.Members.{is-true, same-refl, same-eq, keep-from, keep-into}
 use Rattle.model.proofs.Order.{rising-same}
 use Rattle.model.proofs.Sets.{singles-into, singles-from, singles-lt}
 use Rattle.model.proofs.Plans.{plans-rise, plan-from, plan-into, plan-across}
@@ -31,18 +32,6 @@ module _ (m : ℕ) (opens : List ℕ) where
   pub allowed-at : (i : ℕ) → i < length opens → getD (allowedWords m opens) i 0 ≡ allowedWord m opens i
   unfolding allowedWords
   allowed-at i h = map-below (allowedWord m opens) 0 (length opens) i h
-
-  -- no plan, no allowed cell
-  pub none-allowed : plans m opens ≡ [] → allowedWords m opens ≡ replicate (length opens) 0
-  unfolding allowedWord allowed cellPlan cellPlans
-  none-allowed e =
-      ext-getD 0 (allowedWords m opens) (replicate (length opens) 0) (length-allowed ∙ sym (length-replicate (length opens) 0)) (λ i l.
-      let h : i < length opens = omega (arith, length-allowed) in
-      let f : ℕ → List (List ℕ) → Bool = λ j k. not (same (getD (keep (holds (length opens) i j) k) 0 blank) blank) in
-      allowed-at i h
-      ∙ ap (λ k. union (map (λ j. 2 ^ j) (keep (λ j. f j k) (below m)))) e
-      ∙ ap (λ k. union (map (λ j. 2 ^ j) k)) (keep-none (λ j. f j []) (below m) (λ j h. refl))
-      ∙ sym (getD-replicate (length opens) i 0 0 h))
 
   pub allowed-lt : (i : ℕ) → allowedWord m opens i < 2 ^ m
   unfolding allowedWord
@@ -63,7 +52,18 @@ module _ (m : ℕ) (opens : List ℕ) where
       let t = rw (r .2) at (keep-from (allowed m opens i) (below m) (r .1) .1) in
       T-not (same (cellPlan m opens i j) blank) t (subst T (sym (ap (λ p. same p blank) e ∙ same-refl blank)) tt)
 
-  -- and so exactly if some complete plan gives item i slot j
+  -- no plan, no allowed cell
+  pub none-allowed : plans m opens ≡ [] → allowedWords m opens ≡ replicate (length opens) 0
+  unfolding cellPlan cellPlans keep
+  none-allowed e =
+      let none : (i j : ℕ) → cellPlan m opens i j ≡ blank = λ i j. ap (λ l. getD (keep (holds (length opens) i j) l) 0 blank) e in
+      ext-getD 0 (allowedWords m opens) (replicate (length opens) 0) (length-allowed ∙ sym (length-replicate (length opens) 0)) (λ i l.
+      let h : i < length opens = omega (arith, length-allowed) in
+      let zero = empty m (allowedWord m opens i) (allowed-lt i) (λ j g.
+      elim (bit-cases (allowedWord m opens i) j) [ inl z ↦ z | inr b ↦ absurd (allowed-bit i j b (none i j)) ]) in
+      allowed-at i h ∙ zero ∙ sym (getD-replicate (length opens) i 0 0 h))
+
+  -- a bit is set exactly if some complete plan gives item i slot j
   module _ (few : length opens ≤ 64) (range : (i : ℕ) → i < length opens → getD opens i 0 < 2 ^ m) where
     pub allowed-into : (p : List ℕ) → IsPlan opens p → (i : ℕ) → i < length opens → bit (allowedWord m opens i) (getD p i 0) ≡ 1
     allowed-into p P i h =

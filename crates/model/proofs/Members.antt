@@ -98,11 +98,6 @@ module _ {A : Type 0} (f : A → Bool) where
   keep-all [] h = refl
   keep-all (x ∷ l) h = rw (h x (List·Memᴰ·head refl)) (ap (x ∷_) (keep-all l (λ y m. h y (List·Memᴰ·tail m))))
 
-  pub keep-none : (l : List A) → ((x : A) → List·Memᴰ x l → f x ≡ false) → keep f l ≡ []
-  unfolding keep
-  keep-none [] h = refl
-  keep-none (x ∷ l) h = rw (h x (List·Memᴰ·head refl)) (keep-none l (λ y m. h y (List·Memᴰ·tail m)))
-
   pub keep-le : (l : List A) → length (keep f l) ≤ length l
   unfolding keep
   keep-le [] = omega arith

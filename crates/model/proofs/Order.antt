@@ -15,7 +15,7 @@ use Rattle.words.specs.Sum.{upFrom, below}
 use Rattle.words.proofs.Sums.{upFrom-from}
 use Rattle.model.specs.Lists.{keep, remove, before, Before, Chain, Rising}
 use Rattle.model.specs.Plans.{arrangements}
-use Rattle.model.proofs.Members.{is-true, is-false, both, both-left, both-right, or-left, or-right, or-cases, keep-from, keep-all, keep-none, flatMap-from, mem-at}
+use Rattle.model.proofs.Members.{is-true, is-false, both, both-left, both-right, or-left, or-right, or-cases, keep-from, keep-all, flatMap-from, mem-at}
 
 -- ---- dictionary order
 
@@ -199,11 +199,16 @@ after-member (y ∷ l) r (suc k) h =
     let x = getD l k [] in
     rw (is-false (before x y) (λ a. before-asym x y a (r .0 x (mem-at [] l k (omega arith))))) (after-member l (r .1) k (omega arith))
 
+none-kept : {A : Type 0} (f : A → Bool) (l : List A) → ((x : A) → List·Memᴰ x l → f x ≡ false) → keep f l ≡ []
+unfolding keep
+none-kept f [] h = refl
+none-kept f (x ∷ l) h = rw (h x (List·Memᴰ·head refl)) (none-kept f l (λ y m. h y (List·Memᴰ·tail m)))
+
 pub members-before : (l : List (List ℕ)) → Rising l → (k : ℕ) → k < length l → length (keep (λ q. before q (getD l k [])) l) ≡ k
 unfolding keep
 members-before [] r k h = absurd (omega arith)
 members-before (y ∷ l) r zero h =
     rw (is-false (before y y) (before-irrefl y))
-    (ap length (keep-none (λ q. before q y) l (λ z m. is-false (before z y) (λ a. before-asym z y a (r .0 z m)))))
+    (ap length (none-kept (λ q. before q y) l (λ z m. is-false (before z y) (λ a. before-asym z y a (r .0 z m)))))
 members-before (y ∷ l) r (suc k) h =
     rw (is-true (before y (getD l k [])) (r .0 (getD l k []) (mem-at [] l k (omega arith)))) (ap suc (members-before l (r .1) k (omega arith)))
