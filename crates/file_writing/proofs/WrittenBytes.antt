@@ -9,31 +9,11 @@ use lib.ListN.{length, getD, take, drop, replicate, length-append, length-take, 
 use lib.Seq.{take-all, take-at, drop-at, take-take, drop-drop, drop-cons, length-take-le}
 use Rattle.model.specs.declared.Edition.{Edition}
 use Rattle.model.specs.File.{lowBytes, mark, blocksFor, itemsOf, header, itemBytes, unused, checkOf, body, checked, blocks, fileBytes}
-use Rattle.model.proofs.Parts.{copied}
+use Rattle.model.proofs.Parts.{put-last, put-front, put-more, put-length, copied}
 use Rattle.model.proofs.Editions.{header-length}
 use Rattle.model.proofs.FileBlocks.{low-length, items-length, body-length}
 
--- ---- parts: `put a n l y` is l with y in the place of the n bytes from a on
-
-module _ (a n : ℕ) (l y : List ℕ) where
-  -- the last n bytes
-  put-last : length l ≤ a + n → put a n l y ≡ take a l ++ y
-  put-last h = ap (λ t. take a l ++ (y ++ t)) (drop-of-length-le (drop a l) {i = n} (omega (arith, length-drop a l))) ∙ ap (take a l ++_) (append-nil y)
-
-  module _ (e : length y ≡ n) (h : a ≤ length l) where
-    put-front : take (a + n) (put a n l y) ≡ take a l ++ y
-    put-front =
-        ap (take (a + n)) (sym (append-assoc (take a l) y (drop n (drop a l))))
-        ∙ take-at (take a l ++ y) (drop n (drop a l)) (a + n) (length-append (take a l) y ∙ ap₂ _+_ (length-take-le a l h) e)
-
-    -- one part more of a list that is written from the front
-    pub put-more : (all rest : List ℕ) → all ≡ take a l ++ (y ++ rest) → all ≡ take (a + n) (put a n l y) ++ rest
-    put-more all rest q = q ∙ sym (append-assoc (take a l) y rest) ∙ ap (_++ rest) (sym put-front)
-
-  pub put-length : length y ≡ n → a + n ≤ length l → length (put a n l y) ≡ length l
-  put-length e h =
-      length-append (take a l) (y ++ drop n (drop a l))
-      ∙ omega (arith, length-take a l, length-append y (drop n (drop a l)), length-drop n (drop a l), length-drop a l)
+-- ---- two parts
 
 -- x is written over the first a bytes, then y over the others
 pub put-two : (a n : ℕ) (old x y : List ℕ) → length old ≡ a + n → length x ≡ a → put a n (x ++ drop a old) y ≡ x ++ y

@@ -4,7 +4,7 @@ use mathlib.Core.List.{List, [], _∷_, _++_}
 use Prim.Native.Nat.{ℕ, _+_, _/_, _%_, _^_, _<_, _≤_}
 use native.Mathlib.Omega.{arith}
 use lib.ListN.{length, set, length-append}
-use Rattle.model.specs.ListingText.{decimal}
+use Rattle.model.specs.Decimal.{decimal}
 use Rattle.model.proofs.Decimal.{decimal-one, decimal-more}
 use Rattle.listing_text.specs.Writing.{Wrote}
 use Rattle.listing_text.proofs.Begun.{Begun, begin, done, inside, byte, after}

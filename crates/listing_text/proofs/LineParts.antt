@@ -6,7 +6,8 @@ use native.Mathlib.Numerals.{add-one}
 use lib.ListN.{length, getD, take, drop, drop-of-length-le}
 use lib.Seq.{drop-cons}
 use Rattle.model.specs.Fewest.{calloutsOf}
-use Rattle.model.specs.ListingText.{strokeWord, decimal, numberLine, slotText, planLine}
+use Rattle.model.specs.Decimal.{decimal}
+use Rattle.model.specs.ListingText.{strokeWord, numberLine, slotText, planLine}
 use Rattle.listing_text.specs.Writing.{Wrote}
 use Rattle.listing_text.proofs.Begun.{Begun, tail, put, begin, fits, more, first-fits, after}
 

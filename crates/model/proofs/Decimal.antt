@@ -7,7 +7,7 @@ use native.Mathlib.Omega.{arith}
 use native.Mathlib.Decide.{decLt}
 use borrow.Author.Tests.{lt-ltb, le-ltb}
 use lib.ListN.{length, getD, length-append}
-use Rattle.model.specs.ListingText.{digits, decimal}
+use Rattle.model.specs.Decimal.{digits, decimal}
 
 -- ---- one digit and more
 

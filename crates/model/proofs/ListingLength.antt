@@ -14,8 +14,9 @@ use Rattle.model.specs.Rota.{tableCode}
 use Rattle.model.specs.Plans.{plans}
 use Rattle.model.specs.Fewest.{calloutsOf}
 use Rattle.model.specs.File.{fileCode, itemsIn, slotsIn, opensIn, calloutsIn}
+use Rattle.model.specs.Decimal.{decimal}
 use Rattle.model.specs.ListingText.{refusedWord, rotaWord, endWord, moreWord, strokeWord}
-use Rattle.model.specs.ListingText.{decimal, numberLine, refusedLine, rotaLine, lastLine, slotText, planLine, planLines, listingOf, listingText}
+use Rattle.model.specs.ListingText.{numberLine, refusedLine, rotaLine, lastLine, slotText, planLine, planLines, listingOf, listingText}
 use Rattle.model.proofs.Accepted.{tables-from}
 use Rattle.model.proofs.Laws.{callouts-le, few, range}
 use Rattle.model.proofs.Plans.{plan-from}

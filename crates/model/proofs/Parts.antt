@@ -1,10 +1,11 @@
--- Parts of lists, and lists of so many small numbers. Assumes nothing.
+-- Parts of lists, a part written anew, and lists of so many small numbers. Assumes nothing.
 use mathlib.Core.Path.{_≡_, refl, sym, ap, ap₂, _∙_}
 use mathlib.Core.List.{List, [], _∷_, _++_, append-nil, append-assoc}
 use Prim.Native.Nat.{ℕ, zero, suc, _+_, _-_, _≤_, _<_, min}
 use native.Mathlib.Omega.{arith}
-use lib.ListN.{length, getD, take, drop, length-take, length-drop, take-append-drop, drop-of-length-le}
-use lib.Seq.{take-nil, take-all, take-take, take-add, take-at, drop-at, getD-take, getD-drop}
+use borrow.Rule.Slice.PartMut.{putMid as put}
+use lib.ListN.{length, getD, take, drop, length-append, length-take, length-drop, take-append-drop, drop-of-length-le}
+use lib.Seq.{take-nil, take-all, take-take, take-add, take-at, drop-at, getD-take, getD-drop, length-take-le}
 
 module _ {A : Type 0} where
   -- m elements from place j on, all among the first c
@@ -33,6 +34,30 @@ module _ {A : Type 0} where
   pub two-parts : (c m : ℕ) (l r : List A) → length l ≡ min c m → length r ≡ m - c → (take c (l ++ r) ≡ l) × (drop c (l ++ r) ≡ r)
   two-parts c m l [] p q = rw append-nil (take-all c l (omega arith), drop-of-length-le l {i = c} (omega arith))
   two-parts c m l (x ∷ r) p q = let e : length l ≡ c = omega arith in (take-at l (x ∷ r) c e, drop-at l (x ∷ r) c e)
+
+-- ---- parts: `put a n l y` is l with y in the place of the n bytes from a on
+
+module _ (a n : ℕ) (l y : List ℕ) where
+  -- the last n bytes
+  pub put-last : length l ≤ a + n → put a n l y ≡ take a l ++ y
+  put-last h = ap (λ t. take a l ++ (y ++ t)) (drop-of-length-le (drop a l) {i = n} (omega (arith, length-drop a l))) ∙ ap (take a l ++_) (append-nil y)
+
+  module _ (e : length y ≡ n) (h : a ≤ length l) where
+    pub put-front : take (a + n) (put a n l y) ≡ take a l ++ y
+    put-front =
+        ap (take (a + n)) (sym (append-assoc (take a l) y (drop n (drop a l))))
+        ∙ take-at (take a l ++ y) (drop n (drop a l)) (a + n) (length-append (take a l) y ∙ ap₂ _+_ (length-take-le a l h) e)
+
+    -- one part more of a list that is written from the front
+    pub put-more : (all rest : List ℕ) → all ≡ take a l ++ (y ++ rest) → all ≡ take (a + n) (put a n l y) ++ rest
+    put-more all rest q = q ∙ sym (append-assoc (take a l) y rest) ∙ ap (_++ rest) (sym put-front)
+
+  pub put-length : length y ≡ n → a + n ≤ length l → length (put a n l y) ≡ length l
+  put-length e h =
+      length-append (take a l) (y ++ drop n (drop a l))
+      ∙ omega (arith, length-take a l, length-append y (drop n (drop a l)), length-drop n (drop a l), length-drop a l)
+
+-- ---- lists of small numbers
 
 -- m numbers below c
 pub record Numbers (c m : ℕ) (l : List ℕ) : Type 0 where

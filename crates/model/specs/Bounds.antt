@@ -10,7 +10,8 @@ use Rattle.model.specs.Grade.{gradeOf, rate}
 use Rattle.model.specs.File.{blocksFor, fileCode}
 use Rattle.model.specs.Refusal.{fleetCode, roomCode}
 use Rattle.model.specs.CountAnswers.{countCode}
-use Rattle.model.specs.ListingText.{decimal, lastLine, listingOf}
+use Rattle.model.specs.Decimal.{decimal}
+use Rattle.model.specs.ListingText.{lastLine, listingOf}
 
 -- acceptance, and what count, grade and price add
 pub record Codes : Type 0 where

@@ -18,6 +18,7 @@ pub mod PriceAnswers
 pub mod FileAnswers
 pub mod Lister
 pub mod Listing
+pub mod Decimal
 pub mod ListingText
 pub mod Rows
 pub mod Bounds

@@ -1,13 +1,14 @@
 -- The text of a listing: what the listing program of docs/RULES.md writes for the bytes of a rota file. Assumes nothing.
 use mathlib.Core.Bool.{cond}
 use mathlib.Core.List.{List, [], _∷_, _++_, flatMap}
-use Prim.Native.Nat.{ℕ, zero, suc, _+_, _/_, _%_}
-use lib.Dec.{ltb, leb}
+use Prim.Native.Nat.{ℕ, suc}
+use lib.Dec.{leb}
 use lib.ListN.{length, take}
 use Rattle.model.specs.declared.Edition.{Edition}
 use Rattle.model.specs.Refusal.{unless}
 use Rattle.model.specs.Plans.{plans}
 use Rattle.model.specs.Fewest.{calloutsOf}
+use Rattle.model.specs.Decimal.{decimal}
 use Rattle.model.specs.File.{fileCode, itemsIn, slotsIn, opensIn, calloutsIn}
 
 -- ---- words
@@ -32,17 +33,7 @@ moreWord = 109 ∷ 111 ∷ 114 ∷ 101 ∷ 32 ∷ []
 abbrev pub strokeWord : List ℕ
 strokeWord = 32 ∷ 47 ∷ 32 ∷ []
 
--- ---- numbers and lines
-
--- the decimal digits of a number that has at most k of them, most significant first; "0" is byte 48
-unfoldable pub digits : ℕ → ℕ → List ℕ
-digits zero x = []
-digits (suc k) x = cond (ltb x 10) ((48 + x) ∷ []) (digits k (x / 10) ++ ((48 + x % 10) ∷ []))
-
--- a number of 64 bits has at most 20
-unfoldable pub decimal : ℕ → List ℕ
-unfolding digits
-decimal x = digits 20 x
+-- ---- lines that are a word and a number
 
 -- a word, a number and the byte 10 that ends every line
 unfoldable pub numberLine : List ℕ → ℕ → List ℕ

@@ -4,7 +4,8 @@ use Prim.Native.Nat.{_+_}
 use native.Mathlib.Omega.{arith}
 use borrow.Author.Needs.{needs}
 use Rattle.bytes.proofs.copy.Reads as copy
-use Rattle.model.specs.ListingText.{decimal, numberLine}
+use Rattle.model.specs.Decimal.{decimal}
+use Rattle.model.specs.ListingText.{numberLine}
 use Rattle.listing_text.proofs.Begun.{Begun, put, fits, more, inside, byte, done, copy-wrote}
 use Rattle.listing_text.proofs.LineParts.{word-fits, word-written}
 use Rattle.listing_text.proofs.number.Reads as number

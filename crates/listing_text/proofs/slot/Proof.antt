@@ -4,7 +4,8 @@ use native.Mathlib.Omega.{arith}
 use mathlib.Core.List.{[], _∷_}
 use lib.ListN.{set}
 use borrow.Author.Needs.{needs}
-use Rattle.model.specs.ListingText.{decimal, slotText}
+use Rattle.model.specs.Decimal.{decimal}
+use Rattle.model.specs.ListingText.{slotText}
 use Rattle.listing_text.proofs.Begun.{Begun, put, fits-last, last, inside, byte, done}
 use Rattle.listing_text.proofs.LineParts.{slot-begun}
 use Rattle.listing_text.proofs.number.Reads as number
