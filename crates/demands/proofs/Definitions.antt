@@ -15,16 +15,17 @@ use lib.Dec.{leb}
 use Rattle.words.specs.Word.{bit}
 use Rattle.words.proofs.Sums.{map-below, length-map-below}
 use Rattle.model.specs.Lists.{Before, Chain}
-use Rattle.model.specs.Refusal.{written}
+use Rattle.model.specs.Refusal.{orElse, written, planCode}
 use Rattle.model.specs.Rota.{tableCode}
 use Rattle.model.specs.Plans.{plans, plansAfter, IsPlan, isPlan}
 use Rattle.model.specs.Fewest.{fewest, fewestPlans}
 use Rattle.model.specs.Deficiency.{deficiency, deficientSet}
 use Rattle.model.specs.Allowed.{allowedWords}
 use Rattle.model.specs.Count.{subsetCount, subsetCounts, count}
-use Rattle.model.specs.PlanAnswers.{given, refused, overCap, noPlan, firstOf, firstFrom, nextOf, nextFrom, fewestOf, fewestFrom}
+use Rattle.model.specs.PlanAnswers.{given, overCap, noPlan, firstOf, firstFrom, nextOf, nextFrom, fewestOf, fewestFrom}
 use Rattle.model.specs.PriceAnswers.{gradeBy, priceBy}
 use Rattle.model.proofs.Accepted.{tables-from}
+use Rattle.model.proofs.Codes.{plan-code}
 use Rattle.model.proofs.Plans.{plans-rise, plan-from, plan-into}
 use Rattle.model.proofs.Laws.{few, range, is-plan, is-so, after-rise, after-from, after-into}
 use Rattle.model.proofs.Deficiency.{deficiency-bound, deficient-greatest, deficient-within}
@@ -32,7 +33,7 @@ use Rattle.model.proofs.Allowed.{length-allowed, allowed-at, allowed-into, allo
 use Rattle.model.proofs.Fewest.{fewest-le, fewest-member, fewest-number, fewest-before, fewest-into, fewest-empty}
 use Rattle.maximum.proofs.Hall.{hall}
 use Rattle.demands.specs.Demand2.{IsFirst, IsNext, IsFewestPlan, IsFewest, IsShort, Tallied}
-use Rattle.demands.specs.Tests.{FirstOf, test8, test9, test10, test11}
+use Rattle.demands.specs.Tests.{Test, FirstOf, test8, test9, test10, test11}
 
 -- the members of a rising list are its head or follow it
 head-least : (p : List ℕ) (l : List (List ℕ)) → Chain Before (p ∷ l) → (q : List ℕ) → List·Memᴰ q (p ∷ l) → (q ≡ p) ⊎ Before p q
@@ -102,13 +103,18 @@ module _ (n m : ℕ) (opens callouts : List ℕ) (ok : tableCode n m opens callo
     | p ∷ l ↦ λ e. inr (λ f. f p (next-is g p l e .plan) (next-is g p l e .after), refl)
   ] refl
 
+  -- 8, then others
+  pub plan-first : (g : List ℕ) (others : List Test) (later : ℕ) → FirstOf others later
+      → FirstOf (test8 opens g ∷ others) (orElse (planCode (isPlan m opens g)) later)
+  unfolding FirstOf orElse
+  plan-first g others later f = elim (isPlan m opens g) as (λ b. isPlan m opens g ≡ b → FirstOf (test8 opens g ∷ others) (orElse (planCode b) later)) [
+    | true ↦ λ e. inr (λ no. no (is-so m opens F R g e), f)
+    | false ↦ λ e. inl (λ P. false≢true (sym e ∙ is-plan m opens F R g P), refl)
+  ] refl
+
   pub next-tests : (g : List ℕ) → FirstOf (test8 opens g ∷ test10 opens g ∷ []) (nextFrom m opens g .code)
-  unfolding FirstOf nextFrom
-  next-tests g = elim (isPlan m opens g) as (λ b. isPlan m opens g ≡ b
-      → FirstOf (test8 opens g ∷ test10 opens g ∷ []) (cond b (nextOf (plansAfter m opens g)) (refused 8) .code)) [
-        | true ↦ λ e. inr (λ f. f (is-so m opens F R g e), follows g)
-        | false ↦ λ e. inl (λ P. false≢true (sym e ∙ is-plan m opens F R g P), refl)
-      ] refl
+  unfolding nextFrom
+  next-tests g = rw (plan-code (planCode (isPlan m opens g)) (nextOf (plansAfter m opens g))) (plan-first g _ _ (follows g))
 
   -- ---- the fewest callouts, 9 and 11
 

@@ -14,7 +14,7 @@ use Rattle.model.specs.declared.GradeAnswer.{GradeAnswer}
 use Rattle.model.specs.declared.PriceAnswer.{PriceAnswer}
 use Rattle.model.specs.declared.Lister.{Lister}
 use Rattle.model.specs.Lists.{any}
-use Rattle.model.specs.Refusal.{orElse, unless}
+use Rattle.model.specs.Refusal.{orElse, unless, planCode}
 use Rattle.model.specs.Rota.{strayCallout, cellCode, tableCode}
 use Rattle.model.specs.Plans.{plans, isPlan, plansAfter}
 use Rattle.model.specs.Fewest.{fewest, fewestPlans}
@@ -72,6 +72,12 @@ outcome P refusal zero make [] h stop none some = none refl refl
 outcome P refusal zero make (p ∷ l) h stop none some = some refl p l refl
 outcome P refusal (suc c) make l h stop none some = stop c (omega arith)
 
+-- an answer, or 8
+of-plan : (P : PlanAnswer → Type 0) (b : Bool) {a : PlanAnswer} → P a → P (refused 8) → P (unless refused (planCode b) a)
+unfolding unless
+of-plan P true f g = f
+of-plan P false f g = g
+
 is-short : (n : ℕ) (opens callouts : List ℕ) → tableCode n n opens callouts ≡ 0 → plans n opens ≡ [] → IsShort opens (deficiency opens) (deficientSet opens)
 is-short n opens callouts ok = short-is n n opens callouts ok (tables-from n n opens callouts ok .few-items)
 
@@ -121,11 +127,10 @@ module _ (n : ℕ) (opens callouts : List ℕ) where
   unfolding nextAnswer nextFrom nextOf
   next-says g =
       let is = isPlan n opens (g .slots) in
-      let no-plan : is ≡ false → Says opens _ _ (refused 8) = λ y. says-refused 7 (λ e. omega arith) (omega arith) in
-      outcome (Says opens _ _) refused (tableCode n n opens callouts) (λ l. cond is (nextOf l) (refused 8)) (plansAfter n opens (g .slots))
-      (table-low n opens callouts) low
-      (λ ok e. of-cond (Says opens _ _) is (λ y. says-refused 9 (λ e. omega arith) (omega arith)) no-plan)
-      (λ ok p l e. of-cond (Says opens _ _) is (λ y. says-given (next-is n n opens callouts ok (g .slots) p l e, refl, refl, refl)) no-plan)
+      let no-plan : Says opens _ _ (refused 8) = says-refused 7 (λ e. omega arith) (omega arith) in
+      outcome (Says opens _ _) refused (tableCode n n opens callouts) (λ l. unless refused (planCode is) (nextOf l)) (plansAfter n opens (g .slots))
+      (table-low n opens callouts) low (λ ok e. of-plan (Says opens _ _) is (says-refused 9 (λ e. omega arith) (omega arith)) no-plan)
+      (λ ok p l e. of-plan (Says opens _ _) is (says-given (next-is n n opens callouts ok (g .slots) p l e, refl, refl, refl)) no-plan)
 
   -- fresh as the first plan, started as the next
   pub list-says : (e : Lister) → Says opens (λ a. (a .shortage ≡ 0) × (a .items ≡ 0) × (a .callouts ≡ 0)) (λ k. ⊥) (listerAnswer e n n opens callouts)

@@ -21,7 +21,7 @@ use Rattle.model.specs.PriceAnswers.{gradeRefused, gradeBy, gradeAnswer,
 use Rattle.model.specs.FileAnswers.{readRefused, readCode, readAnswer, writeRefused, writeCode, writeAnswer, planFileCode, onFile}
 use Rattle.model.proofs.Refusals.{or-none, unless-code}
 
-plan-code : (code : ℕ) (a : PlanAnswer) → unless refused code a .code ≡ orElse code (a .code)
+pub plan-code : (code : ℕ) (a : PlanAnswer) → unless refused code a .code ≡ orElse code (a .code)
 plan-code = unless-code (λ (x : PlanAnswer). x .code) refused (λ c. refl)
 
 module _ (n m : ℕ) (opens callouts : List ℕ) where

@@ -13,6 +13,7 @@ use Rattle.words.proofs.Bits.{bit-lt}
 use Rattle.words.proofs.Sums.{sum-const, sum-le}
 use Rattle.model.specs.Lists.{keep, same, before, Before, Chain}
 use Rattle.model.specs.Rota.{tableCode}
+use Rattle.model.specs.Refusal.{unless, planCode}
 use Rattle.model.specs.Plans.{plans, isPlan, plansAfter, IsPlan}
 use Rattle.model.specs.Fewest.{calloutsOf, fewest, fewestPlans}
 use Rattle.model.specs.PlanAnswers.{refused, noPlan, overCap, given, firstOf, firstFrom, nextOf, nextFrom, fewestOf, fewestFrom}
@@ -86,14 +87,16 @@ module _ (m : ℕ) (opens : List ℕ) (few : length opens ≤ 64) (range : (i : 
   unfolding plansAfter
   after-into g p P b = keep-into (before g) (plans m opens) (into p P) b
 
-  next-by : (g : List ℕ) (b : Bool) → isPlan m opens g ≡ b → nextFrom m opens g ≡ cond b (nextOf (plansAfter m opens g)) (refused 8)
+  next-by : (g : List ℕ) (b : Bool) → isPlan m opens g ≡ b → nextFrom m opens g ≡ unless refused (planCode b) (nextOf (plansAfter m opens g))
   unfolding nextFrom
-  next-by g b e = ap (λ b. cond b (nextOf (plansAfter m opens g)) (refused 8)) e
+  next-by g b e = ap (λ b. unless refused (planCode b) (nextOf (plansAfter m opens g))) e
 
   pub next-no-plan : (g : List ℕ) → (IsPlan opens g → ⊥) → nextFrom m opens g ≡ refused 8
+  unfolding unless
   next-no-plan g f = next-by g false (is-no-plan g f)
 
   pub next-at : (g : List ℕ) → IsPlan opens g → nextFrom m opens g ≡ nextOf (plansAfter m opens g)
+  unfolding unless
   next-at g G = next-by g true (is-plan g G)
 
   pub next-of-none : (g : List ℕ) → ((p : List ℕ) → IsPlan opens p → Before g p → ⊥) → nextOf (plansAfter m opens g) ≡ refused 10

@@ -1,7 +1,6 @@
 -- The searches speak of 64 slots, the calls of m: of an accepted rota with at most 64 slots the plans are the same, and so are the
 -- answers. Assumes nothing.
 use mathlib.Core.Path.{_≡_, ap, ap₂}
-use mathlib.Core.Bool.{cond}
 use mathlib.Core.List.{List, map}
 use Prim.Native.Nat.{ℕ, _^_, _<_, _≤_}
 use native.Mathlib.Nat.{lt-of-lt-of-le}
@@ -10,6 +9,7 @@ use lib.Dec.{eqb}
 use lib.ListN.{length, getD}
 use Rattle.model.specs.Lists.{keep, any, same, before, least}
 use Rattle.model.specs.Rota.{tableCode}
+use Rattle.model.specs.Refusal.{unless, planCode}
 use Rattle.model.specs.Plans.{plans, blank, isPlan, plansAfter}
 use Rattle.model.specs.Fewest.{calloutsOf, fewest, fewestPlans}
 use Rattle.model.specs.CellPlans.{holds, cellPlan, cellPlans}
@@ -38,7 +38,7 @@ module _ (n m : ℕ) (opens callouts : List ℕ) (ok : tableCode n m opens callo
 
   pub next-wide : (g : List ℕ) → nextFrom 64 opens g ≡ nextFrom m opens g
   unfolding nextFrom isPlan plansAfter
-  next-wide g = ap (λ l. cond (any (same g) l) (nextOf (keep (before g) l)) (refused 8)) plans-wide
+  next-wide g = ap (λ l. unless refused (planCode (any (same g) l)) (nextOf (keep (before g) l))) plans-wide
 
   pub fewest-number-wide : fewest 64 opens callouts ≡ fewest m opens callouts
   unfolding fewest

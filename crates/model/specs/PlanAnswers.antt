@@ -5,7 +5,7 @@ use Prim.Native.Nat.{ℕ}
 use lib.Dec.{leb}
 use Rattle.model.specs.declared.Plan.{Plan}
 use Rattle.model.specs.declared.PlanAnswer.{PlanAnswer}
-use Rattle.model.specs.Refusal.{unless}
+use Rattle.model.specs.Refusal.{unless, planCode}
 use Rattle.model.specs.Rota.{tableCode}
 use Rattle.model.specs.Plans.{plans, blank, isPlan, plansAfter}
 use Rattle.model.specs.Fewest.{fewest, fewestPlans}
@@ -58,8 +58,8 @@ nextOf (p ∷ rest) = given p 0
 
 -- the same where the given record is a complete plan, else 8
 unfoldable pub nextFrom : ℕ → List ℕ → List ℕ → PlanAnswer
-unfolding isPlan nextOf plansAfter
-nextFrom m opens g = cond (isPlan m opens g) (nextOf (plansAfter m opens g)) (refused 8)
+unfolding unless isPlan nextOf plansAfter
+nextFrom m opens g = unless refused (planCode (isPlan m opens g)) (nextOf (plansAfter m opens g))
 
 unfoldable pub nextAnswer : ℕ → ℕ → List ℕ → List ℕ → Plan → PlanAnswer
 unfolding unless tableCode nextFrom

@@ -1,5 +1,5 @@
 -- How refusals are combined: every call's answer and every lent buffer afterwards is written in these terms. Assumes nothing.
-use mathlib.Core.Bool.{cond, _||_}
+use mathlib.Core.Bool.{Bool, cond, _||_}
 use mathlib.Core.List.{List, _++_}
 use Prim.Native.Nat.{ℕ, zero, suc, _^_}
 use lib.Dec.{eqb, ltb}
@@ -33,6 +33,10 @@ tallyCode m words = cond (ltb words (2 ^ m)) 6 0
 -- 7
 abbrev pub fleetCode : ℕ → ℕ
 fleetCode vehicles = cond (eqb vehicles 0 || ltb 10000 vehicles) 7 0
+
+-- 8: whether the given record is a complete plan
+abbrev pub planCode : Bool → ℕ
+planCode complete = cond complete 0 8
 
 -- 15: a lent output has fewer places than are to be written
 abbrev pub roomCode : ℕ → ℕ → ℕ
