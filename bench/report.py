@@ -36,8 +36,8 @@ def span(values, form="{:.2f}"):
 
 
 def calls(table):
-    """The times of the four calls for plans, in a table that has library, Rust and ratio of each."""
-    names = ["the first plan takes", "the next", "the usable slots", "the fewest callouts"]
+    """The times of the five calls for plans, in a table that has library, Rust and ratio of each."""
+    names = ["the first plan takes", "the next", "the usable slots", "the fewest callouts", "the sheet"]
     return ", ".join(f"{name} {span(numbers(table, 1 + 3 * k))}" for k, name in enumerate(names)) + " µs"
 
 
@@ -70,8 +70,8 @@ def result(times, peers, stack):
         f"- At 64 items {calls(plans64)}.",
         f"- The first plan that holds an open cell takes {span(numbers(cells, 3))} µs at 64 items, {span(numbers(cells, 6))} times as long "
         f"as the first plan of the same family; a cell that is not open {span(numbers(others, 1))} µs.",
-        f"- The same algorithms in Rust: the library takes {span(ratios(plans64, 4) + numbers(cells, 5))} times their time at 64 items, "
-        f"{span(ratios(plans20, 4))} at 20, and {span(ratios(counting, 3))} to count.",
+        f"- The same algorithms in Rust: the library takes {span(ratios(plans64, 5) + numbers(cells, 5))} times their time at 64 items, "
+        f"{span(ratios(plans20, 5))} at 20, and {span(ratios(counting, 3))} to count.",
         f"- Instead of a plan igraph or LEMON, which answer less, take {whole(factors(plan, [3, 5]))} times as long "
         f"({whole(factors(plan, [4, 6]))} with a graph built before); for the fewest callouts {whole(factors(fewest, [3, 5, 7]))} "
         f"({whole(factors(fewest, [4, 6, 8]))}); PARI for the count {whole(factors(count, [4]))}.",

@@ -44,9 +44,9 @@
 #include <stddef.h>
 #include <stdint.h>
 
-/* The version, in numbers and as a text made of them: "1.1.0". */
+/* The version, in numbers and as a text made of them: "1.2.0". */
 #define ROTA_VERSION_MAJOR 1
-#define ROTA_VERSION_MINOR 1
+#define ROTA_VERSION_MINOR 2
 #define ROTA_VERSION_PATCH 0
 #define ROTA_VERSION ROTA_VERSION_OF(ROTA_VERSION_MAJOR, ROTA_VERSION_MINOR, ROTA_VERSION_PATCH)
 #define ROTA_VERSION_OF(major, minor, patch) ROTA_VERSION_TEXT(major, minor, patch)
@@ -100,12 +100,14 @@ static inline const char *rota_code_text(uint32_t code)
     return code < sizeof texts / sizeof texts[0] ? texts[code] : "the library has no such number";
 }
 
-/* Sizes that the calls and the file are made of. */
+/* Sizes that the calls, the file and the plan sheet are made of. */
 enum {
     ROTA_MOST_ITEMS = 64,    /* items, slots, and bytes of a plan */
     ROTA_MOST_COUNTED = 20,  /* items of a rota that is counted, graded or priced */
     ROTA_BLOCK_BYTES = 512,  /* bytes of a block of a rota file */
-    ROTA_FILE_BYTES = 1536   /* bytes of the longest rota file */
+    ROTA_FILE_BYTES = 1536,  /* bytes of the longest rota file */
+    ROTA_LINE_BYTES = 32,    /* bytes of a line of a plan sheet */
+    ROTA_SHEET_BYTES = 2080  /* bytes of the longest plan sheet */
 };
 
 /*
@@ -203,6 +205,17 @@ rota_plan_answer rota_fewest_callouts(size_t n, const uint64_t *opens, size_t op
  */
 rota_plan_answer rota_cell_plan(size_t n, const uint64_t *opens, size_t opens_len,
                                 const uint64_t *callouts, size_t callouts_len, size_t item, size_t slot);
+
+/*
+ * The sheet of a given plan, for the wall of a yard: on success the first (n + 1) * 32 bytes of page are written, n + 1 lines
+ * of 32 bytes each. A line has spaces but for columns 0 and 1, 6 and 7, 12, and a line feed in column 31. The heading has
+ * "IT", "SL" and "C" there; then item i's line has its number and its slot, both right-aligned, and "C" if its cell in the
+ * plan is a callout, else a space. No byte of 0 ends the sheet. Tests TABLES, ROTA_OUTPUT_TOO_SHORT (fewer than
+ * (n + 1) * 32 bytes), ROTA_NOT_A_PLAN. A page of ROTA_SHEET_BYTES is always long enough.
+ */
+uint32_t rota_plan_sheet(size_t n, const uint64_t *opens, size_t opens_len,
+                         const uint64_t *callouts, size_t callouts_len, rota_plan given,
+                         uint8_t *page, size_t page_len);
 
 /*
  * The usable table: on success the first n words of usable are written; bit j of word i is set if some complete plan

@@ -1,5 +1,5 @@
 #!/usr/bin/env python3
-"""Writes the rota files of examples/, and knows what the download program says of their rotas.
+"""Writes the rota files of examples/, and knows the plans that the programs there show of their rotas.
 
 usage: tests/samples.py DIR      (DIR/*.rota; DIR is examples)
 

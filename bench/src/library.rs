@@ -40,6 +40,16 @@ mod c {
             item: usize,
             slot: usize,
         ) -> PlanAnswer;
+        pub fn rota_plan_sheet(
+            n: usize,
+            o: *const u64,
+            o_len: usize,
+            c: *const u64,
+            c_len: usize,
+            given: Plan,
+            page: *mut u8,
+            page_len: usize,
+        ) -> u32;
         pub fn rota_usable_slots(
             n: usize,
             o: *const u64,
@@ -124,6 +134,10 @@ pub fn fewest_callouts(n: usize, o: &[u64], c: &[u64], cap: u32) -> PlanAnswer {
 
 pub fn cell_plan(n: usize, o: &[u64], c: &[u64], item: usize, slot: usize) -> PlanAnswer {
     unsafe { c::rota_cell_plan(n, o.as_ptr(), o.len(), c.as_ptr(), c.len(), item, slot) }
+}
+
+pub fn plan_sheet(n: usize, o: &[u64], c: &[u64], given: Plan, page: &mut [u8]) -> u32 {
+    unsafe { c::rota_plan_sheet(n, o.as_ptr(), o.len(), c.as_ptr(), c.len(), given, page.as_mut_ptr(), page.len()) }
 }
 
 pub fn usable_slots(n: usize, o: &[u64], c: &[u64], usable: &mut [u64]) -> u32 {

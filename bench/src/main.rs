@@ -22,7 +22,11 @@ const VEHICLES: u64 = 500;
 /// The family of the tables that have one alone.
 const HIDDEN: &str = "random 6 and a plan";
 
-/// The first plan of each rota. Ends the program if the two sides differ on a rota that is timed, or on the plans that follow.
+/// The bytes of the page, which is long enough for every sheet.
+const PAGE: usize = 2080;
+
+/// The first plan of each rota. Ends the program if the two sides differ on a rota that is timed, or on the plans that follow
+/// and their sheets.
 fn compare_plans(n: usize, Family { name, rotas }: &Family) -> Vec<PlanAnswer> {
     let compare = |r: &Rota| {
         let first = agree(name, |s| (s.first_plan)(n, &r.opens, &r.callouts));
@@ -32,6 +36,11 @@ fn compare_plans(n: usize, Family { name, rotas }: &Family) -> Vec<PlanAnswer> {
             let mut usable = vec![0; n];
             ((s.usable_slots)(n, &r.opens, &r.callouts, &mut usable), usable)
         });
+        let sheet = |s: &Side, plan: Plan| {
+            let mut page = vec![255; PAGE];
+            ((s.plan_sheet)(n, &r.opens, &r.callouts, plan, &mut page), page)
+        };
+        agree(name, |s| sheet(s, first.plan));
         // The walk goes on for a while, to compare more plans.
         let mut plan: Plan = first.plan;
         for _ in 0..100 {
@@ -40,6 +49,7 @@ fn compare_plans(n: usize, Family { name, rotas }: &Family) -> Vec<PlanAnswer> {
                 break;
             }
             plan = next.plan;
+            agree(name, |s| sheet(s, plan));
         }
         first
     };
@@ -47,7 +57,7 @@ fn compare_plans(n: usize, Family { name, rotas }: &Family) -> Vec<PlanAnswer> {
 }
 
 fn plans(report: &mut Report, n: usize, families: Vec<Family>) {
-    heading(&format!("Plans, n = {n}"), "family", &["first", "next", "usable", "fewest"]);
+    heading(&format!("Plans, n = {n}"), "family", &["first", "next", "usable", "fewest", "sheet"]);
     for family in families {
         let first = compare_plans(n, &family);
         let Family { name, rotas } = family;
@@ -59,7 +69,8 @@ fn plans(report: &mut Report, n: usize, families: Vec<Family>) {
             }
         });
         report.cell("first", n, name, t);
-        if first.iter().all(|a| a.code == 0) {
+        let planned = first.iter().all(|a| a.code == 0);
+        if planned {
             let t = times(report.rounds, count, |s| {
                 for (r, first) in rotas.iter().zip(&first) {
                     black_box((s.next_plan)(black_box(n), &r.opens, &r.callouts, first.plan));
@@ -82,6 +93,17 @@ fn plans(report: &mut Report, n: usize, families: Vec<Family>) {
             }
         });
         report.cell("fewest", n, name, t);
+        if planned {
+            let mut page = vec![0; PAGE];
+            let t = times(report.rounds, count, |s| {
+                for (r, first) in rotas.iter().zip(&first) {
+                    black_box((s.plan_sheet)(black_box(n), &r.opens, &r.callouts, first.plan, black_box(&mut page)));
+                }
+            });
+            report.cell("sheet", n, name, t);
+        } else {
+            print!(" | | |");
+        }
         println!();
     }
 }

@@ -5,6 +5,9 @@ use crate::timing::Times;
 /// The library's time over Rust's.
 const MOST_RATIO: f64 = 1.3;
 
+/// The same for the sheet of 64 items.
+const MOST_SHEET_RATIO: f64 = 1.5;
+
 /// The time of a cell's plan over that of the first plan.
 const MOST_FIRSTS: f64 = 1.5;
 
@@ -62,18 +65,20 @@ impl Report {
         for (family, firsts) in self.firsts.iter().filter(|family| family.1 > MOST_FIRSTS) {
             above.push(format!("cell, n = 64, {family}: {firsts:.2} times as long as first"));
         }
-        let (full, smaller): (Vec<&Cell>, Vec<&Cell>) = self.cells.iter().partition(|cell| cell.n == 64);
-        let ratios = |cells: &[&Cell]| range(cells.iter().map(|cell| cell.times.ratio()));
-        println!("| library / Rust, n = 64 | {MOST_RATIO} | {} |", ratios(&full));
-        println!("| library / Rust, n below 64 | {MOST_RATIO} | {} |\n", ratios(&smaller));
-        for cell in self.cells.iter().filter(|cell| cell.times.ratio() > MOST_RATIO) {
-            let Cell { call, n, family, times } = cell;
-            above.push(format!(
-                "{call}, n = {n}, {family}: ratio {:.2} at {} µs",
-                times.ratio(),
-                digits(times.library)
-            ));
+        let ratios: [(&str, f64, fn(&Cell) -> bool); 3] = [
+            ("n = 64, sheet", MOST_SHEET_RATIO, |cell| cell.n == 64 && cell.call == "sheet"),
+            ("n = 64, other calls", MOST_RATIO, |cell| cell.n == 64 && cell.call != "sheet"),
+            ("n below 64", MOST_RATIO, |cell| cell.n < 64),
+        ];
+        for (which, limit, of) in ratios {
+            let cells = self.cells.iter().filter(|cell| of(cell));
+            println!("| library / Rust, {which} | {limit} | {} |", range(cells.clone().map(|cell| cell.times.ratio())));
+            for Cell { call, n, family, times } in cells.filter(|cell| cell.times.ratio() > limit) {
+                let (ratio, time) = (times.ratio(), digits(times.library));
+                above.push(format!("{call}, n = {n}, {family}: ratio {ratio:.2} at {time} µs"));
+            }
         }
+        println!();
         if above.is_empty() {
             println!("Nothing is above its limit.");
         } else {

@@ -2,7 +2,7 @@
 
 use crate::library;
 use crate::records::{CountAnswer, GradeAnswer, Lister, Plan, PlanAnswer, PriceAnswer, ReadAnswer, WriteAnswer};
-use crate::same::rota::{counting, file_plans, files, lister, plans, pricing, usable};
+use crate::same::rota::{counting, file_plans, files, lister, plans, pricing, sheets, usable};
 use std::fmt::Debug;
 
 pub struct Side {
@@ -11,6 +11,7 @@ pub struct Side {
     pub list_plan: fn(&mut Lister, usize, &[u64], &[u64]) -> PlanAnswer,
     pub fewest_callouts: fn(usize, &[u64], &[u64], u32) -> PlanAnswer,
     pub cell_plan: fn(usize, &[u64], &[u64], usize, usize) -> PlanAnswer,
+    pub plan_sheet: fn(usize, &[u64], &[u64], Plan, &mut [u8]) -> u32,
     pub usable_slots: fn(usize, &[u64], &[u64], &mut [u64]) -> u32,
     pub count_plans: fn(usize, &[u64], &[u64], &mut [u64]) -> CountAnswer,
     pub grade: fn(usize, &[u64], &[u64], &mut [u64]) -> GradeAnswer,
@@ -28,6 +29,7 @@ pub static LIBRARY: Side = Side {
     list_plan: library::list_plan,
     fewest_callouts: library::fewest_callouts,
     cell_plan: library::cell_plan,
+    plan_sheet: library::plan_sheet,
     usable_slots: library::usable_slots,
     count_plans: library::count_plans,
     grade: library::grade,
@@ -45,6 +47,7 @@ pub static RUST: Side = Side {
     list_plan: lister::rota_list_plan,
     fewest_callouts: plans::rota_fewest_callouts,
     cell_plan: plans::rota_cell_plan,
+    plan_sheet: sheets::rota_plan_sheet,
     usable_slots: usable::rota_usable_slots,
     count_plans: counting::rota_count_plans,
     grade: pricing::rota_grade,

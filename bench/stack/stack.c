@@ -30,7 +30,7 @@ static unsigned char *volatile frame; /* the lowest place of the caller's frame 
 static size_t n, file_bytes, item, slot;
 static uint64_t opens[64], callouts[64], usable[64], read_opens[64], read_callouts[64];
 static uint64_t tally[1 << ROTA_MOST_COUNTED];
-static uint8_t file[ROTA_FILE_BYTES], buffer[64];
+static uint8_t file[ROTA_FILE_BYTES], buffer[64], page[ROTA_SHEET_BYTES];
 static rota_plan given;
 static rota_lister lister;
 static volatile uint32_t code;
@@ -66,6 +66,7 @@ CALLER(next_plan, rota_next_plan(TABLES, given).code)
 CALLER(list_plan, rota_list_plan(&lister, TABLES).code)
 CALLER(fewest_callouts, rota_fewest_callouts(TABLES, UINT32_MAX).code)
 CALLER(cell_plan, rota_cell_plan(TABLES, item, slot).code)
+CALLER(plan_sheet, rota_plan_sheet(TABLES, given, page, sizeof page))
 CALLER(usable_slots, rota_usable_slots(TABLES, usable, 64))
 CALLER(count_plans, rota_count_plans(TABLES, TALLY).code)
 CALLER(grade, rota_grade(TABLES, TALLY).code)
@@ -125,6 +126,7 @@ static row rows[] = {
     {"list_plan", list_plan, 0, NULL},
     {"fewest_callouts", fewest_callouts, 0, NULL},
     {"cell_plan", cell_plan, 0, NULL},
+    {"plan_sheet", plan_sheet, 0, NULL},
     {"usable_slots", usable_slots, 0, NULL},
     {"count_plans", count_plans, 0, NULL},
     {"grade", grade, 0, NULL},
@@ -194,6 +196,7 @@ static void measure_plans(const bench_family *family)
     for (int step = 0; step < STEPS; step++) {
         uint32_t end;
         given = lister.plan;
+        require(measure(plan_sheet, family) == ROTA_DONE, "the plan has a sheet");
         end = measure(next_plan, family);
         require(end == ROTA_DONE || end == ROTA_NO_FURTHER_PLAN, "a plan follows or none");
         require(measure(list_plan, family) == end, "the lister goes on");

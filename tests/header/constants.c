@@ -50,9 +50,10 @@ void texts(void)
 static void most_items(void)
 {
     uint64_t opens[ROTA_MOST_ITEMS + 1], none[ROTA_MOST_ITEMS + 1];
-    uint8_t file[ROTA_FILE_BYTES];
+    uint8_t file[ROTA_FILE_BYTES], page[ROTA_SHEET_BYTES];
     rota_plan_answer a;
     rota_write_answer written;
+    uint32_t code;
 
     for (unsigned i = 0; i <= ROTA_MOST_ITEMS; i++) {
         opens[i] = (uint64_t)1 << (i % 64);
@@ -60,6 +61,11 @@ static void most_items(void)
     }
     a = rota_first_plan(ROTA_MOST_ITEMS, opens, ROTA_MOST_ITEMS, none, ROTA_MOST_ITEMS);
     EXPECT(a.code == ROTA_DONE && a.plan.slots[0] == 0 && a.plan.slots[ROTA_MOST_ITEMS - 1] == ROTA_MOST_ITEMS - 1);
+    code = rota_plan_sheet(ROTA_MOST_ITEMS, opens, ROTA_MOST_ITEMS, none, ROTA_MOST_ITEMS, a.plan, page, ROTA_SHEET_BYTES - 1);
+    EXPECT(code == ROTA_OUTPUT_TOO_SHORT);
+    code = rota_plan_sheet(ROTA_MOST_ITEMS, opens, ROTA_MOST_ITEMS, none, ROTA_MOST_ITEMS, a.plan, page, ROTA_SHEET_BYTES);
+    EXPECT(code == ROTA_DONE);
+    EXPECT(memcmp(page + ROTA_SHEET_BYTES - ROTA_LINE_BYTES, "63    63                       \n", ROTA_LINE_BYTES) == 0);
     a = rota_first_plan(ROTA_MOST_ITEMS + 1, opens, ROTA_MOST_ITEMS + 1, none, ROTA_MOST_ITEMS + 1);
     EXPECT(gives(a, ROTA_BAD_N, blank(), 0));
     a = rota_cell_plan(ROTA_MOST_ITEMS, opens, ROTA_MOST_ITEMS, none, ROTA_MOST_ITEMS, ROTA_MOST_ITEMS - 1, ROTA_MOST_ITEMS - 1);
@@ -72,6 +78,8 @@ static void most_items(void)
     EXPECT(written.code == ROTA_DONE && written.bytes == ROTA_FILE_BYTES);
     written = rota_write_file(1, opens, 1, none, 1, file, ROTA_BLOCK_BYTES);
     EXPECT(written.code == ROTA_DONE && written.bytes == ROTA_BLOCK_BYTES);
+    EXPECT(rota_plan_sheet(1, opens, 1, none, 1, plan(0, 0, 0), page, 2 * ROTA_LINE_BYTES - 1) == ROTA_OUTPUT_TOO_SHORT);
+    EXPECT(rota_plan_sheet(1, opens, 1, none, 1, plan(0, 0, 0), page, 2 * ROTA_LINE_BYTES) == ROTA_DONE);
 }
 
 /* The most items that are counted, and one more: slots i and i + 1 are open to item i, which makes one plan. */

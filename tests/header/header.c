@@ -1,6 +1,6 @@
 /*
- * Every call once or more on T, with the results of document 01. This text and the other parts of the test are compiled as C and
- * as C++, and each part includes the header for itself.
+ * Every call once or more on T, with the results that docs/RULES.md gives. This text and the other parts of the test are compiled
+ * as C and as C++, and each part includes the header for itself.
  */
 #include "rota.h"
 
@@ -101,6 +101,59 @@ static void cells(void)
     EXPECT(gives(rota_cell_plan(3, CALLOUTS, 3, OPENS, 3, 3, 3), ROTA_CALLOUT_NOT_OPEN, blank(), 0));
 }
 
+/* Whether bytes are as they were lent. */
+static bool kept(const uint8_t *bytes, size_t length)
+{
+    for (size_t i = 0; i < length; i++) {
+        if (bytes[i] != 77) {
+            return false;
+        }
+    }
+    return true;
+}
+
+/* Whether the page, lent with a byte before and behind it, has this sheet in its first 128 bytes and is else as it was lent. */
+static bool sheet_of(const uint8_t *lent, size_t length, const char *lines)
+{
+    return kept(lent, 1) && memcmp(lent + 1, lines, 128) == 0 && kept(lent + 129, length - 129);
+}
+
+/* The sheet of a plan, on a page with the bytes that it needs, with one more and with one less; no refusal changes the page. */
+static void sheets(void)
+{
+    /* The calls go through a pointer of the declared type; another type would not compile. */
+    uint32_t (*const sheet)(size_t, const uint64_t *, size_t, const uint64_t *, size_t, rota_plan, uint8_t *, size_t) = rota_plan_sheet;
+    uint64_t short_opens[4] = {1, 1, 2, 14}, none[4] = {0, 0, 0, 0};
+    rota_plan longer = plan(0, 2, 1);
+    uint8_t lent[131], *page = lent + 1;
+
+    longer.slots[63] = 1;
+    memset(lent, 77, sizeof lent);
+    EXPECT(sheet(0, OPENS, 3, CALLOUTS, 3, blank(), page, 0) == ROTA_BAD_N);
+    EXPECT(sheet(2, OPENS, 3, CALLOUTS, 3, blank(), page, 0) == ROTA_BAD_TABLE_LENGTH);
+    EXPECT(sheet(2, OPENS, 2, CALLOUTS, 2, blank(), page, 0) == ROTA_SLOT_OUTSIDE);
+    EXPECT(sheet(3, CALLOUTS, 3, OPENS, 3, blank(), page, 0) == ROTA_CALLOUT_NOT_OPEN);
+    EXPECT(sheet(T, blank(), page, 127) == ROTA_OUTPUT_TOO_SHORT);
+    EXPECT(sheet(T, plan(0, 2, 1), page, 127) == ROTA_OUTPUT_TOO_SHORT);
+    EXPECT(sheet(T, blank(), page, 128) == ROTA_NOT_A_PLAN);
+    EXPECT(sheet(T, plan(2, 1, 0), page, 128) == ROTA_NOT_A_PLAN);
+    EXPECT(sheet(T, plan(0, 1, 1), page, 128) == ROTA_NOT_A_PLAN);
+    EXPECT(sheet(T, longer, page, 128) == ROTA_NOT_A_PLAN);
+    EXPECT(sheet(3, short_opens, 3, none, 3, plan(0, 0, 1), page, 128) == ROTA_NOT_A_PLAN);
+    EXPECT(kept(lent, sizeof lent));
+
+    EXPECT(sheet(T, plan(0, 2, 1), page, 128) == ROTA_DONE);
+    EXPECT(sheet_of(lent, sizeof lent, "IT    SL    C                  \n"
+                                       " 0     0    C                  \n"
+                                       " 1     2                       \n"
+                                       " 2     1                       \n"));
+    EXPECT(sheet(T, plan(1, 0, 2), page, 129) == ROTA_DONE);
+    EXPECT(sheet_of(lent, sizeof lent, "IT    SL    C                  \n"
+                                       " 0     1                       \n"
+                                       " 1     0                       \n"
+                                       " 2     2    C                  \n"));
+}
+
 static void tables(void)
 {
     /* Word S: the ways to give the slots of S to the first items. */
@@ -179,6 +232,7 @@ int main(void)
 {
     plans();
     cells();
+    sheets();
     tables();
     files();
     constants();

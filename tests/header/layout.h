@@ -72,5 +72,6 @@ static_assert(ROTA_BAD_CHECK == 13 && ROTA_BAD_LAYOUT == 14 && ROTA_OUTPUT_TOO_S
 
 static_assert(ROTA_MOST_ITEMS == 64 && ROTA_MOST_COUNTED == 20, "items");
 static_assert(ROTA_BLOCK_BYTES == 512 && ROTA_FILE_BYTES == 1536, "bytes");
+static_assert(ROTA_LINE_BYTES == 32 && ROTA_SHEET_BYTES == 2080, "bytes of a sheet");
 
 #endif

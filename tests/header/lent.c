@@ -25,6 +25,8 @@ static void no_tables(void)
     EXPECT(gives(rota_fewest_callouts(3, NO_TABLES, 9), ROTA_BAD_TABLE_LENGTH, blank(), 0));
     EXPECT(gives(rota_cell_plan(0, NO_TABLES, 0, 0), ROTA_BAD_N, blank(), 0));
     EXPECT(gives(rota_cell_plan(3, NO_TABLES, 0, 0), ROTA_BAD_TABLE_LENGTH, blank(), 0));
+    EXPECT(rota_plan_sheet(0, NO_TABLES, plan(0, 1, 2), NULL, 0) == ROTA_BAD_N);
+    EXPECT(rota_plan_sheet(3, NO_TABLES, plan(0, 1, 2), NULL, 0) == ROTA_BAD_TABLE_LENGTH);
     EXPECT(rota_usable_slots(0, NO_TABLES, NULL, 0) == ROTA_BAD_N);
     EXPECT(rota_count_plans(0, NO_TABLES, NULL, 0).code == ROTA_BAD_N);
     EXPECT(rota_grade(0, NO_TABLES, NULL, 0).code == ROTA_BAD_N);
@@ -38,6 +40,8 @@ static void no_outputs(void)
     uint8_t file[ROTA_BLOCK_BYTES];
     rota_read_answer read;
 
+    EXPECT(rota_plan_sheet(T, plan(0, 1, 2), NULL, 0) == ROTA_OUTPUT_TOO_SHORT);
+    EXPECT(rota_plan_sheet(T, blank(), NULL, 0) == ROTA_OUTPUT_TOO_SHORT);
     EXPECT(rota_usable_slots(T, NULL, 0) == ROTA_OUTPUT_TOO_SHORT);
     EXPECT(rota_count_plans(T, NULL, 0).code == ROTA_TALLY_TOO_SHORT);
     EXPECT(rota_count_plans(21, none, 21, none, 21, NULL, 0).code == ROTA_TOO_MANY_TO_COUNT);
@@ -74,7 +78,7 @@ void overlapping_inputs(void)
     static const uint64_t words[4] = {7, 6, 6, 4};
     rota_lister lister = ROTA_LISTER_FRESH;
     uint64_t usable[3], tally[8], opens[3], callouts[3];
-    uint8_t file[ROTA_BLOCK_BYTES];
+    uint8_t file[ROTA_BLOCK_BYTES], page[4 * ROTA_LINE_BYTES];
     rota_price_answer price;
 
     EXPECT(gives(rota_first_plan(TWICE), ROTA_DONE, plan(0, 1, 2), 0));
@@ -83,6 +87,8 @@ void overlapping_inputs(void)
     EXPECT(gives(rota_fewest_callouts(TWICE, 3), ROTA_DONE, plan(0, 1, 2), 3));
     EXPECT(gives(rota_fewest_callouts(TWICE, 2), ROTA_OVER_CAP, blank(), 3));
     EXPECT(gives(rota_cell_plan(TWICE, 1, 2), ROTA_DONE, plan(0, 2, 1), 0));
+    EXPECT(rota_plan_sheet(TWICE, plan(1, 0, 2), page, sizeof page) == ROTA_DONE);
+    EXPECT(page[12] == 'C' && page[32 + 12] == 'C' && page[64 + 12] == 'C' && page[96 + 12] == 'C');
     EXPECT(rota_usable_slots(TWICE, usable, 3) == ROTA_DONE && memcmp(usable, OPENS, sizeof usable) == 0);
     EXPECT(rota_count_plans(TWICE, tally, 8).count == 3 && tally[7] == 3);
     EXPECT(rota_grade(TWICE, tally, 8).grade == 3);
@@ -96,4 +102,6 @@ void overlapping_inputs(void)
     EXPECT(gives(rota_fewest_callouts(3, words, 3, words + 1, 3, 9), ROTA_DONE, plan(0, 2, 1), 1));
     EXPECT(gives(rota_cell_plan(3, words, 3, words + 1, 3, 1, 2), ROTA_DONE, plan(0, 2, 1), 0));
     EXPECT(gives(rota_cell_plan(3, words, 3, words + 1, 3, 0, 1), ROTA_DONE, blank(), 0));
+    EXPECT(rota_plan_sheet(3, words, 3, words + 1, 3, plan(0, 2, 1), page, sizeof page) == ROTA_DONE);
+    EXPECT(page[12] == 'C' && page[32 + 12] == ' ' && page[64 + 12] == 'C' && page[96 + 12] == ' ');
 }

@@ -5,6 +5,7 @@ from rotas import holding, named, padded, rota_t
 
 BLANK = bytes([255] * 64)
 FRESH = bytes(65)
+PAGE = 2100  # bytes of a page that is longer than any sheet
 FAR = (63, 64, 256, 1 << 32, 1 << 61, (1 << 64) - 1)  # no items and no slots of a small rota, though some would be with fewer bits
 
 
@@ -47,9 +48,10 @@ def agrees(answer, code, what, plan=None, **given):
 class Asked:
     """The questions that a document may ask of a rota; each gives how many answers were compared."""
 
-    def __init__(self, library, file_of):
+    def __init__(self, library, file_of, sheet_of):
         self.library = library
         self.file_of = file_of  # the file of a rota by the document's layout, or None where it has none
+        self.sheet_of = sheet_of  # the sheet of a rota and a plan by the document's columns
 
     def on_file(self, rota, call, expected, plan, given=BLANK, **cap):
         """The same question to the call on the rota's file, with a plan buffer of 70 bytes."""
@@ -116,6 +118,17 @@ class Asked:
         agrees(self.library.cell_plan(rota, item, slot), expected.code, text, plan, **expected.brings)
         return 1
 
+    def sheet(self, rota, given, page, text):
+        """The page's first bytes are the sheet of the plan, as many as said, and nothing else is changed."""
+        expected, given, room = Expected(text), plan_of(given), PAGE if page is None else number(page)
+        answer = self.library.plan_sheet(rota, given, room)
+        agrees(answer, expected.code, text, **expected.brings)
+        if not expected.code:
+            size, sheet, written = number(*match("# bytes", text)), self.sheet_of(rota, given), left(answer, "page")
+            expect(size == len(sheet) and written == sheet + FILL * (room - size), text, "- the library writes", written)
+            expect(answer.changed == ["page"], text, "- changed:", answer.changed)
+        return 1
+
     def callouts_of(self, rota, plan, text):
         """The fewest callouts where only the plan's cells are open."""
         n, opens, callouts = rota
@@ -179,14 +192,17 @@ class Asked:
             return self.next_plan(rota, *match("next plan after ([0-9 ]+)", asked), text)
         if words[0] == "cell's":
             return self.cell_plan(rota, *match("cell's plan, item #, slot #", asked), text)
+        if words[0] == "sheet":
+            given, _, _, _, page = match("sheet of ([0-9 ]+|# to #)(, page of # bytes)?", asked)
+            return self.sheet(rota, given, page, text)
         if words[0] == "callouts":
             return self.callouts_of(rota, *match("callouts of ([0-9 ]+)", asked), text)
         raise Wrong("not understood: " + asked)
 
 
-def lines(doc, library, file_of):
+def lines(doc, library, file_of, sheet_of):
     """The indented lines with an arrow, wherever they stand, and the table of worked rotas: examples, and answers compared."""
-    asked, t, examples, answers = Asked(library, file_of), rota_t(doc), 0, 0
+    asked, t, examples, answers = Asked(library, file_of, sheet_of), rota_t(doc), 0, 0
     for title in doc.sections:
         for line in doc.indented(title, ".* → "):
             rota, question, answer = match("([^:]*): (.*) → (.*)", line)

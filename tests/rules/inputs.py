@@ -38,6 +38,11 @@ def given(wanted, n):
     return plan + bytes([255] * 6)
 
 
+def page(n):
+    """The bytes of a sheet of n items."""
+    return (n + 1) * 32
+
+
 def on_tables(wanted, longer=(0, 1)):
     """Tables; where 2 is wanted, this many words more of open and of callout words."""
     n = 21 if 5 in wanted else 2
@@ -51,7 +56,7 @@ def on_tables(wanted, longer=(0, 1)):
         tally = 0  # what n asks for is much, and a call that tests n looks no further
     short = 15 in wanted
     return Input((n, tuple(opens), tuple(callouts)), None, given(wanted, n)[:64], 0 if 11 in wanted else 64, 0 if 7 in wanted else 100,
-                 n - 1 if short and n else n + 2, 511 if short else 1536, tally, (n, 0) if OUTSIDE in wanted else (0, 1))
+                 n - 1 if short and n else n + 2, 511 if short else 1536, tally, (n, 0) if OUTSIDE in wanted else (0, 1), page(n) - short)
 
 
 def on_file(layout, wanted, n=2):
@@ -73,9 +78,10 @@ def tables_at_bounds(bounds):
     good = on_tables(set())
     sizes = {n + more for n in bounds[1] + (1, 64) for more in (-1, 0, 1)} - {-1}
     for n in sorted(sizes):
-        yield good._replace(rota=plain([1 << i if i < 64 else 0 for i in range(n)]), given=padded(range(min(n, 64))), words=n, bytes=1536, tally=1 << min(n, 8))
+        yield good._replace(rota=plain([1 << i if i < 64 else 0 for i in range(n)]), given=padded(range(min(n, 64))), words=n, bytes=1536, tally=1 << min(n, 8),
+                            page=page(n))
     for n in sorted({bounds[5][0], bounds[5][0] + 1, 20, 21}):
-        yield good._replace(rota=plain([1 << i for i in range(n)]), given=padded(range(n)), words=n, tally=1 << n)
+        yield good._replace(rota=plain([1 << i for i in range(n)]), given=padded(range(n)), words=n, tally=1 << n, page=page(n))
     for longer in ((1, 0), (-1, 0), (0, -1), (1, 1), (-1, -1), (-2, -2)):
         yield on_tables({2}, longer)
     for tally in (0, 1, 2, 3, 4, 5, bounds[6][0] ** 2 - 1):
@@ -84,6 +90,10 @@ def tables_at_bounds(bounds):
         yield good._replace(vehicles=vehicles)
     for words, size in ((0, 0), (1, 511), (2, 512), (3, 513)):
         yield good._replace(words=words, bytes=size)
+    for bytes_ in (0, 32, 64, 95, 96, 97, 128):
+        yield good._replace(page=bytes_)
+    for slots in ([0, 2], [64, 1], [0, 65], [255, 1], [0, 1, 1], [0, 1] + [0] * 61 + [1]):
+        yield good._replace(given=padded(slots))
 
 
 def files_at_bounds(layout, bounds):

@@ -122,6 +122,11 @@ class Library:
         return self.on_tables("rota_cell_plan", PlanAnswer, rota, [ctypes.c_size_t(item), ctypes.c_size_t(slot)])
 
     @functools.lru_cache(maxsize=None)
+    def plan_sheet(self, rota, given, places):
+        page = Lent(FILL * places)
+        return self.on_tables("rota_plan_sheet", ctypes.c_uint32, rota, [Plan.from_buffer_copy(given), (page, 1)], [("page", page)])
+
+    @functools.lru_cache(maxsize=None)
     def usable_slots(self, rota, places):
         usable = Lent(FILL * 8 * places)
         return self.on_tables("rota_usable_slots", ctypes.c_uint32, rota, [(usable, 8)], [("usable", usable)])

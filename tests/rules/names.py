@@ -11,8 +11,8 @@ from rotas import rota_t
 ANSWERS = {"plan": "plan", "item set": "items", "shortage": "shortage", "fewest number": "callouts", "count": "count", "grade": "grade", "price": "cents",
            "number of bytes": "bytes", "n": "n"}
 
-GETS = {"given": "a plan", "lister": "a lister", "cap": "the cap r", "item": "an item", "slot": "a slot", "usable": "a table", "tally": "a tally",
-        "vehicles": "vehicles", "file": "a buffer", "opens": "two tables", "callouts": "two tables", "plan": "a plan buffer"}
+GETS = {"given": "a plan", "lister": "a lister", "cap": "the cap r", "item": "an item", "slot": "a slot", "page": "a page", "usable": "a table",
+        "tally": "a tally", "vehicles": "vehicles", "file": "a buffer", "opens": "two tables", "callouts": "two tables", "plan": "a plan buffer"}
 
 
 def read(path):
@@ -71,6 +71,7 @@ def on_t(library, t, name, file):
         "rota_list_plan": lambda: library.list_plan(t, bytes(65)),
         "rota_fewest_callouts": lambda: library.fewest_callouts(t, 1),
         "rota_cell_plan": lambda: library.cell_plan(t, 1, 2),
+        "rota_plan_sheet": lambda: library.plan_sheet(t, given, 150),
         "rota_usable_slots": lambda: library.usable_slots(t, 9),
         "rota_count_plans": lambda: library.count_plans(t, 19),
         "rota_grade": lambda: library.grade(t, 19),
@@ -107,8 +108,9 @@ def calls(doc, library, file, root):
     rows, t, says = doc.table("Calls", "call", "gets", "answers", "writes on success"), rota_t(doc), None
     expect({name.strip("`"): gets for name, gets, _, _ in rows} == prototypes(root), "the header's calls get", prototypes(root))
     n = t[0]
-    writes = {"": {}, "the lister": {"lister": 65}, "n words": {"usable": 8 * n}, "2 to the power n words of the tally": {"tally": 8 << n},
-              "these bytes": {"file": 512}, "n words of each": {"open words": 8 * n, "callout words": 8 * n}, "64 bytes": {"plan": 64}}
+    writes = {"": {}, "the lister": {"lister": 65}, "(n + 1) × 32 bytes": {"page": (n + 1) * 32}, "n words": {"usable": 8 * n},
+              "2 to the power n words of the tally": {"tally": 8 << n}, "these bytes": {"file": 512},
+              "n words of each": {"open words": 8 * n, "callout words": 8 * n}, "64 bytes": {"plan": 64}}
     for name, _, answers, written in rows:
         says = says if written == "the same" else written
         answer = on_t(library, t, name.strip("`"), file)

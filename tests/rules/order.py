@@ -3,21 +3,23 @@ from document import Wrong, expect, numbers
 from examples import BLANK, agrees
 from files import Layout
 from inputs import ON_FILES, ON_TABLES, OUTSIDE, chosen, files_at_bounds, on_file, on_tables, tables_at_bounds
+from library import FILL, left
 from refusals import FILES, NEVER_BOTH, TABLES, Numbers, fits
 from rotas import holding, plans
+from sheets import Columns
 
 
 class Order:
     """The rows, over the inputs, with what was shown."""
 
     def __init__(self, doc, library, program, known):
-        self.numbers, self.layout = Numbers(doc), Layout(doc)
+        self.numbers, self.layout, self.sheets = Numbers(doc), Layout(doc), Columns(doc)
         expect(self.numbers.bounds[14] == (self.layout.files[0][0], self.layout.files[-1][1]), "14 and the blocks have other bounds of n")
         self.library, self.program = library, program
         self.rows = {call: numbers(row) for call, row in doc.table("Order of tests", "call", "its tests, in order")}
         expect(list(self.rows) == list(TABLES) + list(FILES), "other calls in the order of tests")
         self.shown, self.compared = set(), 0
-        self.known = known.setdefault((str(self.numbers.bounds), str(vars(self.layout))), {})
+        self.known = known.setdefault((str(self.numbers.bounds), str(vars(self.layout)), str(vars(self.sheets))), {})
 
     def inputs(self, call):
         """Made once for each layout and bounds."""
@@ -38,7 +40,7 @@ class Order:
             if key not in self.known:
                 expect(code in self.numbers.bounds, call, "tests", code)
                 expect(call in FILES or code not in (12, 13, 14), call, "tests", code, "without a file")
-                self.known[key] = fits(self.numbers, self.layout, call, code, x)
+                self.known[key] = fits(self.numbers, self.layout, self.sheets, call, code, x)
             if self.known[key]:
                 found.append(code)
         return found
@@ -54,6 +56,9 @@ class Order:
             expect(answer.plan in (None, BLANK) and not answer.changed, call, wanted, "- a plan, or changed:", answer.changed)
         elif call == "`rota_cell_plan`":
             agrees(answer, 0, "%s %d %d of %s" % (call, *x.cell, str(x.rota)[:300]), holding(plans(x.rota), x.rota[0], *x.cell) or BLANK)
+        elif call == "`rota_plan_sheet`":
+            sheet = self.sheets.sheet_of(x.rota, x.given)
+            expect(left(answer, "page") == sheet + FILL * (x.page - len(sheet)), call, "of", str(x)[:300], "- writes", left(answer, "page"))
 
     def compare_text(self, x, wanted):
         text = self.program.text(x.data)

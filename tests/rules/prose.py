@@ -20,6 +20,12 @@ SENTENCES = (
     ("Cell's plan", "the number is #, and the plan's first byte is #", "unheld blank"),
     ("Cell's plan", "whichever #-bit number it is", "size"),
     ("Cell's plan", "by # to #, and nothing else. It never gives #,", "bad-n not-open no-plan"),
+    ("Plan sheet", "Each line is # bytes", "line"),
+    ("Plan sheet", "the line of item i at byte (i + #) × #, and the sheet has (n + #) × # bytes", "headings line headings line"),
+    ("Plan sheet", "one below # has a space before it", "two-digits"),
+    ("Plan sheet", "by # to #, the call tests the page: # if it has fewer than (n + #) × # bytes", "bad-n not-open no-page headings line"),
+    ("Plan sheet", "Then it tests the given plan: # if that is no complete plan", "no-sheet"),
+    ("Plan sheet", "so the answer is # and never #", "no-sheet-at-all no-plan"),
     ("Usable table", "all n words are #, and that is no refusal", "unusable"),
     ("Shortage", "Comes with refusal #.", "no-plan"),
     ("Count", "For n up to #; above, #. A count of # is a success.", "most-counted too-many no-plans"),
@@ -81,6 +87,9 @@ def codes(library, t):
         "too-many": library.count_plans(diagonal(21), 0).code,
         "short-tally": library.count_plans(t, 0).code,
         "no-room": library.usable_slots(t, 0).code,
+        "no-page": library.plan_sheet(t, last, 0).code,
+        "no-sheet": library.plan_sheet(t, bytes(64), 150).code,
+        "no-sheet-at-all": library.plan_sheet(none, bytes([0, 1]) + bytes(62), 150).code,
         "bad-n": library.first_plan(plain([])).code,
         "length": library.read_file(b"", 3, 3).code,
         "check": library.read_file(wrong_check, 3, 3).code,
@@ -108,6 +117,8 @@ def figures(library, program, t):
     least_n = least(lambda n: library.first_plan(diagonal(n)).code != 1)
     file = library.write_file(t, 1600)
     long = program.text(library.write_file(with_plans(1001), 512).lent[-1][2])
+    one, two = (least(lambda size: library.plan_sheet(diagonal(n), bytes(range(n)) + bytes(64 - n), size).code == 0) for n in (1, 2))
+    sheet = library.plan_sheet(diagonal(64), bytes(range(64)), 2100).lent[-1][2]
     return {
         "least-n": least_n,
         "most-n": least(lambda n: n > least_n and library.first_plan(diagonal(n)).code == 1) - 1,
@@ -115,6 +126,9 @@ def figures(library, program, t):
         "plan": least(lambda n: library.file_first_plan(file.lent[-1][2][:512], bytes(n)).code == 0),
         "blank": blank[0],
         "unheld": library.cell_plan(plain([0, 3]), 1, 0).code,
+        "line": two - one,
+        "headings": one // (two - one) - 1,
+        "two-digits": least(lambda i: sheet[(i + 1) * (two - one)] != ord(" ")),
         "unusable": max(library.usable_slots(plain([0, 3]), 2).lent[-1][2]),
         "no-plans": library.count_plans(plain([0]), 2).numbers["count"],
         "most-counted": least(lambda n: n > 0 and library.count_plans(diagonal(n), 0).code == 5) - 1,

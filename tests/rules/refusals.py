@@ -33,6 +33,7 @@ TABLES = {
     "`rota_list_plan`, started": lambda library, x: library.list_plan(x.rota, b"\1" + x.given),
     "`rota_fewest_callouts`": lambda library, x: library.fewest_callouts(x.rota, x.cap),
     "`rota_cell_plan`": lambda library, x: library.cell_plan(x.rota, *x.cell),
+    "`rota_plan_sheet`": lambda library, x: library.plan_sheet(x.rota, x.given, x.page),
     "`rota_usable_slots`": lambda library, x: library.usable_slots(x.rota, x.words),
     "`rota_count_plans`": lambda library, x: library.count_plans(x.rota, x.tally),
     "`rota_grade`": lambda library, x: library.grade(x.rota, x.tally),
@@ -54,8 +55,8 @@ NEVER_BOTH = {
 }
 
 # What a call may be given: a rota in tables or a file's bytes, a plan, a cap, vehicles, the room of a table in words, of a buffer in bytes and of the tally,
-# and a cell, its item and its slot.
-Input = collections.namedtuple("Input", "rota data given cap vehicles words bytes tally cell", defaults=[(0, 1)])
+# a cell, its item and its slot, and the bytes of a page.
+Input = collections.namedtuple("Input", "rota data given cap vehicles words bytes tally cell page", defaults=[(0, 1), 0])
 
 
 class Numbers:
@@ -106,8 +107,10 @@ def check_wrong(layout, data):
     return any(layout.check(block) != block for block in blocks)
 
 
-def room_wanted(layout, call, rota):
-    """What a success would write, and the room for it: of n words or of a file's bytes; a plan has 64."""
+def room_wanted(layout, sheets, call, rota):
+    """What a success would write, and the room for it: of n words, of a sheet's or of a file's bytes; a plan has 64."""
+    if call == "`rota_plan_sheet`":
+        return "page", sheets.size(rota[0])
     if call in ("`rota_usable_slots`", "`rota_read_file`"):
         return "words", rota[0]
     if call == "`rota_write_file`":
@@ -115,13 +118,13 @@ def room_wanted(layout, call, rota):
     return "bytes", 64
 
 
-def fits(numbers_, layout, call, code, x):
+def fits(numbers_, layout, sheets, call, code, x):
     """Whether a number fits this input."""
     bounds = numbers_.bounds[code]
     rota = x.rota if x.data is None else loose(layout, x.data)
     n, opens, callouts = rota
     if code == 15:
-        room, wanted = room_wanted(layout, call, rota)
+        room, wanted = room_wanted(layout, sheets, call, rota)
         return getattr(x, room) < wanted
     if code in (12, 13, 14):
         return len(x.data) not in bounds if code == 12 else check_wrong(layout, x.data) if code == 13 else not_laid_out(layout, bounds, x.data)

@@ -32,6 +32,10 @@ def named(t, text):
     if text.endswith(" items, every cell open"):
         (n,) = match("# items, every cell open", text)
         return plain([(1 << min(number(n), 64)) - 1] * number(n))
+    if text.endswith(" callouts"):
+        n, slot = map(number, match("# items, every cell open, those of slot # callouts", text))
+        expect(n <= 64 and slot < 64, "no bit of a word:", text)
+        return plain([(1 << n) - 1] * n, [1 << slot] * n)
     n, slot = map(number, match("# items, slot # open to each", text))
     expect(slot < 64, "no bit of a word:", text)
     return plain([1 << slot] * n)

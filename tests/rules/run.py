@@ -18,12 +18,15 @@ import pricing
 import prose
 import refusals
 import self_check
+import sheets
 from document import Document, Wrong
 from library import Library
 
 # How many examples of each kind the document has. Another number fails.
 EXAMPLES = {
-    "example lines": 81,
+    "example lines": 95,
+    "columns of a sheet": 7,
+    "lines of sheets": 16,
     "lister calls": 9,
     "grade rules": 5,
     "rates": 15,
@@ -32,11 +35,11 @@ EXAMPLES = {
     "lines of T's dump": 5,
     "listings": 6,
     "refusals in C": 15,
-    "pairs of tests": 259,
-    "calls": 14,
-    "sentences with numbers": 44,
-    "words": 21,
-    "rules linked": 34,
+    "pairs of tests": 274,
+    "calls": 15,
+    "sentences with numbers": 50,
+    "words": 22,
+    "rules linked": 35,
 }
 
 
@@ -50,7 +53,9 @@ class Rules:
     def checks(self):
         library = self.library
         return {
-            "example lines": lambda doc: examples.lines(doc, library, files.Layout(doc).file_of),
+            "example lines": lambda doc: examples.lines(doc, library, files.Layout(doc).file_of, sheets.Columns(doc).sheet_of),
+            "columns of a sheet": lambda doc: sheets.columns(doc, library),
+            "lines of sheets": lambda doc: sheets.shown(doc, library),
             "lister calls": lambda doc: examples.lister(doc, library),
             "grade rules": lambda doc: pricing.grades(doc, library),
             "rates": lambda doc: pricing.rates(doc, library),

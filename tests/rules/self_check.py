@@ -1,4 +1,5 @@
-"""Shows that the test can fail: each line that it reads is changed in a copy of the document, one number at a time, and the copy must be refused.
+"""Shows that the test can fail: each line that it reads is changed in a copy of the document, one number or column of a sheet at a time, and the copy must be
+refused.
 
 A change of what an example asks may give an example that is true as well; so may none of an answer or of a rule.
 """
@@ -10,7 +11,7 @@ from document import NUMBER, Document, Wrong
 # The columns of a table that ask; those behind them answer. In all other tables every number is a rule's.
 ASKING = {"Worked rotas": 2, "Lists of lister calls": 1, "Listing program": 1}
 # How many changes of what is asked leave the example true. Another number fails.
-STILL_TRUE = 60
+STILL_TRUE = 89
 
 
 def asked(title, line):
@@ -22,7 +23,10 @@ def asked(title, line):
 
 
 def changes(line):
-    """The line with one number changed, for each of its numbers, and the number's place; in the dump bytes and places too, which are hexadecimal."""
+    """The line with one number changed, for each of its numbers, and the number's place; in the dump bytes and places too, which are hexadecimal, and in a
+    sheet each column."""
+    for at in range(4, len(line)) if re.match(r"    .*\$$", line) else ():
+        yield at, line[:at] + ("C" if line[at] == " " else " ") + line[at + 1:]
     dump = re.match("    [0-9a-f]{3}  ", line)
     end = line.index("   ", 4) if dump else 0
     for found in re.finditer("[0-9a-f]{2,3}", line[:end]):
@@ -78,8 +82,8 @@ def sentences(rules, text):
 
 
 def self_check(rules, examples, text, read):
-    """Every line that a check has read: the line left out, a word more, and each number changed, but in the table of words, which has names; in the
-    order of tests any two neighbours swapped too."""
+    """Every line that a check has read: the line left out, a word more, and each number and each column of a sheet changed, but in the table of words,
+    which has names; in the order of tests any two neighbours swapped too."""
     lines, document, tried, true = text.split("\n"), Document(text), 0, 0
     for place in sorted(set().union(*read.values())):
         line = lines[place]
@@ -103,4 +107,4 @@ def self_check(rules, examples, text, read):
             raise Wrong("the test does not refuse what it does not read: " + more[-1])
     if true != STILL_TRUE:
         raise Wrong("%d changes of what is asked leave an example true, and there should be %d" % (true, STILL_TRUE))
-    print("rules: self-check: %d changes of a number or of an order; %d in what is asked leave the example true, all others are refused" % (tried, true))
+    print("rules: self-check: %d changes of a number, a column or an order; %d in what is asked leave the example true, all others are refused" % (tried, true))

@@ -18,5 +18,6 @@ mod next;
 mod permanent;
 mod plan;
 pub mod rota;
+mod sheet;
 mod tariff;
 mod words;

@@ -49,3 +49,10 @@ pub fn adopt(opens: &[u64], plan: [u8; 64], owner: &mut [u8; 64]) -> Adoption {
     }
     adopt_items(opens, plan, owner)
 }
+
+// Whether a record is a plan, where nobody asks for the holders.
+pub fn is_plan(opens: &[u64], plan: [u8; 64]) -> bool {
+    let mut owner = [0u8; 64];
+    let a = adopt(opens, plan, &mut owner);
+    a.ok
+}

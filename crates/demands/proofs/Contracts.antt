@@ -15,12 +15,13 @@ use Rattle.model.specs.declared.ReadAnswer.{ReadAnswer}
 use Rattle.model.specs.declared.WriteAnswer.{WriteAnswer}
 use Rattle.model.specs.PlanAnswers.{firstAnswer, nextAnswer, fewestAnswer, cellAnswer}
 use Rattle.model.specs.Lister.{listerAnswer, listerAfter}
+use Rattle.model.specs.SheetAnswers.{sheetCode, sheetAfter}
 use Rattle.model.specs.UsableAnswers.{usableCode, usableAfter}
 use Rattle.model.specs.CountAnswers.{countAnswer, countTally}
 use Rattle.model.specs.PriceAnswers.{gradeAnswer, gradeTally, priceAnswer, priceTally}
 use Rattle.model.specs.FileAnswers.{readAnswer, readOpens, readCallouts, writeAnswer, writeFile, fileFirst, fileNext, fileFewest, bufferAfter}
-use Rattle.demands.specs.Calls.{ListCall, EachFirst, EachNext, EachFewest, EachCell, EachList, EachUsable, EachCount, EachGrade, EachPrice, EachRead, EachWrite}
-use Rattle.demands.specs.Calls.{EachFileFirst, EachFileNext, EachFileFewest, AskNothing}
+use Rattle.demands.specs.Calls.{ListCall, EachFirst, EachNext, EachFewest, EachCell, EachSheet, EachList, EachUsable, EachCount, EachGrade, EachPrice}
+use Rattle.demands.specs.Calls.{EachRead, EachWrite, EachFileFirst, EachFileNext, EachFileFewest, AskNothing}
 
 pub first-each : (Q : ℕ → List ℕ → List ℕ → PlanAnswer → Type 0)
     → ((n : ℕ) (opens callouts : List ℕ) → Q n opens callouts (firstAnswer n n opens callouts)) → EachFirst Q
@@ -41,6 +42,12 @@ pub cell-each : (Q : ℕ → List ℕ → List ℕ → ℕ → ℕ → PlanAnswe
     → ((n : ℕ) (opens callouts : List ℕ) (i j : ℕ) → Q n opens callouts i j (cellAnswer n n opens callouts i j)) → EachCell Q
 unfolding EachCell
 cell-each Q f κs a r s l = subst⁻¹ (Q _ _ _ _ _) l (f _ _ _ _ _)
+
+pub sheet-each : (Q : ℕ → List ℕ → List ℕ → Plan → List ℕ → ℕ → List ℕ → Type 0)
+    → ((n : ℕ) (opens callouts : List ℕ) (g : Plan) (old : List ℕ)
+    → Q n opens callouts g old (sheetCode n n opens callouts g (length old)) (sheetAfter n n opens callouts g old)) → EachSheet Q
+unfolding EachSheet
+sheet-each Q f κs a r s l = subst₂ (Q _ _ _ _ _) (sym (l .0)) (sym (l .1)) (f _ _ _ _ _)
 
 pub list-met : (c : ListCall)
     → let n = c .args .1 .0 in let e = now (c .args .0) in let opens = now (c .args .1 .1 .0) in let callouts = now (c .args .1 .1 .1 .0) in
@@ -115,6 +122,7 @@ ask-nothing =
       next-plan = λ κs a. tt;
       fewest-callouts = λ κs a. tt;
       cell-plan = λ κs a. tt;
+      plan-sheet = λ κs a. tt;
       usable-slots = λ κs a. tt;
       count-plans = λ κs a. tt;
       grade = λ κs a. tt;

@@ -3,7 +3,7 @@ use mathlib.Core.Path.{_≡_, refl, sym, ap, _∙_, subst}
 use mathlib.Core.Logic.{_≢_}
 use mathlib.Core.Bool.{Bool, true, false, cond}
 use mathlib.Core.List.{List, [], _∷_}
-use Prim.Native.Nat.{ℕ, zero, suc, _*_, _^_}
+use Prim.Native.Nat.{ℕ, zero, suc, _+_, _*_, _^_}
 use lib.ListN.{length, take}
 use Rattle.model.specs.declared.Plan.{Plan}
 use Rattle.model.specs.declared.PlanAnswer.{PlanAnswer}
@@ -18,6 +18,7 @@ use Rattle.model.specs.declared.Edition.{Edition}
 use Rattle.model.specs.File.{blocksFor, fileCode, itemsIn, slotsIn, opensIn, calloutsIn}
 use Rattle.model.specs.PlanAnswers.{given, refused, firstAnswer, nextAnswer, fewestAnswer, cellAnswer}
 use Rattle.model.specs.Lister.{listerAnswer, listerAfter}
+use Rattle.model.specs.SheetAnswers.{sheetCode, sheetAfter}
 use Rattle.model.specs.UsableAnswers.{usableAfter}
 use Rattle.model.specs.CountAnswers.{countRefused, countCode, countAnswer, countTally}
 use Rattle.model.specs.PriceAnswers.{gradeAnswer, gradeTally, priceCode, priceAnswer, priceTally}
@@ -29,10 +30,10 @@ use Rattle.model.proofs.Files.{accepted-file}
 use Rattle.model.proofs.Listing.{refused-keeps}
 use Rattle.demands.specs.Tests.{Test, FirstOf, test5, test6, test7, test8, test9, test10, test11, test15, tables, fileTests}
 use Rattle.demands.specs.Demand1.{Refused, Demand1}
-use Rattle.demands.proofs.Contracts.{first-each, next-each, fewest-each, cell-each, list-each, usable-each, count-each, grade-each, price-each, read-each}
-use Rattle.demands.proofs.Contracts.{write-each, file-first-each, file-next-each, file-fewest-each, ask-nothing}
+use Rattle.demands.proofs.Contracts.{first-each, next-each, fewest-each, cell-each, sheet-each, list-each, usable-each, count-each, grade-each}
+use Rattle.demands.proofs.Contracts.{price-each, read-each, write-each, file-first-each, file-next-each, file-fewest-each, ask-nothing}
 use Rattle.demands.proofs.TestLaws.{none-fits, tables-first, file-first, either, equals, less, test-first, room-first}
-use Rattle.demands.proofs.Definitions.{first-tests, next-tests, fewest-tests, grade-tests, price-tests}
+use Rattle.demands.proofs.Definitions.{first-tests, plan-first, next-tests, fewest-tests, grade-tests, price-tests}
 use Rattle.demands.proofs.Outcomes.{first-says, next-says, list-says, fewest-says, grade-says, price-says}
 
 -- ---- the numbers, in their order
@@ -57,6 +58,13 @@ module _ (n : ℕ) (opens callouts : List ℕ) where
 
   cell-number : (i j : ℕ) → FirstOf (tables n opens callouts []) (cellAnswer n n opens callouts i j .code)
   cell-number i j = last _ _ _ (tables-first n opens callouts [] 0 (λ ok. none-fits)) (cell-code n n opens callouts i j)
+
+  sheet-number : (g : Plan) (old : List ℕ)
+      → FirstOf (tables n opens callouts (test15 old ((n + 1) * 32) ∷ test8 opens (g .slots) ∷ [])) (sheetCode n n opens callouts g (length old))
+  unfolding sheetCode
+  sheet-number g old =
+      tables-first n opens callouts _ _ (λ ok.
+      room-first _ _ old ((n + 1) * 32) (λ h. last _ _ _ (plan-first n n opens callouts ok (g .slots) [] 0 none-fits) refl))
 
   list-number : (started : Bool) (g : Plan)
       → FirstOf (tables n opens callouts (cond started (test8 opens (g .slots) ∷ test10 opens (g .slots) ∷ []) (test9 opens ∷ [])))
@@ -151,7 +159,7 @@ kept r code values old new e q d = q ∙ sym (nothing-written r code d (sym e) v
 -- ---- the theorem
 
 pub demand1 : Demand1
-unfolding listerAfter usableAfter countTally gradeTally priceTally readOpens readCallouts writeCode writeFile bufferAfter
+unfolding listerAfter sheetAfter usableAfter countTally gradeTally priceTally readOpens readCallouts writeCode writeFile bufferAfter
 demand1 =
     record {
       anything = ask-nothing;
@@ -160,6 +168,7 @@ demand1 =
       list-code = list-each _ (λ e n o k. list-number n o k (e .started) (e .plan));
       fewest-code = fewest-each _ fewest-number;
       cell-code = cell-each _ cell-number;
+      sheet-code = sheet-each _ sheet-number;
       usable-code = usable-each _ (λ n o k old. room-says n o k old n);
       count-code = count-each _ count-number;
       grade-code = grade-each _ grade-number;
@@ -189,6 +198,7 @@ demand1 =
       read-refused = read-each (λ file o k r o′ k′ e w x. subst (λ (x : ReadAnswer). x .code ≢ 0 → x .n ≡ 0) (sym e) (zero-items file (length o) (length k)));
       write-refused = write-each (λ n o k old r new e w. subst (λ (x : WriteAnswer). x .code ≢ 0 → x .bytes ≡ 0) (sym e) (zero-bytes n o k (length old)));
       list-keeps = list-each _ (λ e n o k. refused-keeps e (listerAnswer e n n o k));
+      sheet-keeps = sheet-each _ (λ n o k g old. kept _ _ _ old _ refl refl);
       usable-keeps = usable-each _ (λ n o k old. kept _ _ _ old _ refl refl);
       count-keeps = count-each _ (λ n o k tally. kept _ _ _ tally _ (count-code n n o k (length tally)) refl);
       grade-keeps = grade-each _ (λ n o k tally. kept _ _ _ tally _ refl refl);

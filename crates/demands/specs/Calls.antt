@@ -31,6 +31,8 @@ use Rattle.rota.proofs.plans.rota_cell_plan.Reads as cell-reads
 use Rattle.rota.proofs.lister.rota_list_plan as list
 use Rattle.rota.proofs.usable.rota_usable_slots as usable
 use Rattle.rota.proofs.usable.rota_usable_slots.Reads as usable-reads
+use Rattle.rota.proofs.sheets.rota_plan_sheet as sheet
+use Rattle.rota.proofs.sheets.rota_plan_sheet.Reads as sheet-reads
 use Rattle.rota.proofs.counting.rota_count_plans as count
 use Rattle.rota.proofs.counting.rota_count_plans.Reads as count-reads
 use Rattle.rota.proofs.pricing.rota_grade as grade
@@ -66,6 +68,10 @@ EachFewest P = (κs : Lfts 2) (a : Args fewest.signature κs) (r : Res fewest.si
 unfoldable pub EachCell : (ℕ → List ℕ → List ℕ → ℕ → ℕ → PlanAnswer → Type 0) → Type 0
 EachCell P = (κs : Lfts 2) (a : Args cell.signature κs) (r : Res cell.signature κs) (s : AtExit cell.ended κs) → cell-reads.Learnt κs a r s
     → P (a .0) (now (a .1 .0)) (now (a .1 .1 .0)) (a .1 .1 .1 .0) (a .1 .1 .1 .1 .0) r
+
+unfoldable pub EachSheet : (ℕ → List ℕ → List ℕ → Plan → List ℕ → ℕ → List ℕ → Type 0) → Type 0
+EachSheet P = (κs : Lfts 3) (a : Args sheet.signature κs) (r : Res sheet.signature κs) (s : AtExit sheet.ended κs) → sheet-reads.Learnt κs a r s
+    → P (a .0) (now (a .1 .0)) (now (a .1 .1 .0)) (a .1 .1 .1 .0) (now (a .1 .1 .1 .1 .0)) r (now (s .1 .1 .1 .1 .0))
 
 -- ---- the lister. Its call takes a `&mut` record, and what is known of it is read off its clauses
 
@@ -131,6 +137,7 @@ pub record AskNothing : Type 2 where
   pub next-plan : (κs : Lfts 2) (a : Args next.signature κs) → next-reads.Asked κs a
   pub fewest-callouts : (κs : Lfts 2) (a : Args fewest.signature κs) → fewest-reads.Asked κs a
   pub cell-plan : (κs : Lfts 2) (a : Args cell.signature κs) → cell-reads.Asked κs a
+  pub plan-sheet : (κs : Lfts 3) (a : Args sheet.signature κs) → sheet-reads.Asked κs a
   pub usable-slots : (κs : Lfts 3) (a : Args usable.signature κs) → usable-reads.Asked κs a
   pub count-plans : (κs : Lfts 3) (a : Args count.signature κs) → count-reads.Asked κs a
   pub grade : (κs : Lfts 3) (a : Args grade.signature κs) → grade-reads.Asked κs a

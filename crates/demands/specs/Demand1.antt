@@ -6,13 +6,13 @@ use mathlib.Core.Path.{_≡_}
 use mathlib.Core.Logic.{_≢_}
 use mathlib.Core.Bool.{cond}
 use mathlib.Core.List.{[], _∷_}
-use Prim.Native.Nat.{_*_}
+use Prim.Native.Nat.{_+_, _*_}
 use lib.ListN.{take}
 use Rattle.model.specs.declared.PlanAnswer.{PlanAnswer}
 use Rattle.model.specs.Plans.{blank}
 use Rattle.model.specs.File.{blocksFor, itemsIn, opensIn, calloutsIn}
-use Rattle.demands.specs.Calls.{EachFirst, EachNext, EachFewest, EachCell, EachList, EachUsable, EachCount, EachGrade, EachPrice, EachRead, EachWrite}
-use Rattle.demands.specs.Calls.{EachFileFirst, EachFileNext, EachFileFewest, AskNothing}
+use Rattle.demands.specs.Calls.{EachFirst, EachNext, EachFewest, EachCell, EachSheet, EachList, EachUsable, EachCount, EachGrade, EachPrice, EachRead}
+use Rattle.demands.specs.Calls.{EachWrite, EachFileFirst, EachFileNext, EachFileFewest, AskNothing}
 use Rattle.demands.specs.Tests.{FirstOf, test5, test6, test7, test8, test9, test10, test11, test15, tables, fileTests}
 
 -- a refused answer: the blank plan; item set and shortage 0 but with 9, callouts 0 but with 11
@@ -33,6 +33,7 @@ pub record Demand1 : Type 2 where
       FirstOf (tables n opens callouts (cond (e .started) (test8 opens (e .plan .slots) ∷ test10 opens (e .plan .slots) ∷ []) (test9 opens ∷ []))) (r .code))
   pub fewest-code : EachFewest (λ n opens callouts cap r. FirstOf (tables n opens callouts (test9 opens ∷ test11 opens callouts cap ∷ [])) (r .code))
   pub cell-code : EachCell (λ n opens callouts i j r. FirstOf (tables n opens callouts []) (r .code))
+  pub sheet-code : EachSheet (λ n opens callouts g old r new. FirstOf (tables n opens callouts (test15 old ((n + 1) * 32) ∷ test8 opens (g .slots) ∷ [])) r)
   pub usable-code : EachUsable (λ n opens callouts old r new. FirstOf (tables n opens callouts (test15 old n ∷ [])) r)
   pub count-code : EachCount (λ n opens callouts tally r new. FirstOf (tables n opens callouts (test5 n ∷ test6 n tally ∷ [])) (r .code))
   pub grade-code : EachGrade (λ n opens callouts tally r new. FirstOf (tables n opens callouts (test5 n ∷ test6 n tally ∷ test9 opens ∷ [])) (r .code))
@@ -59,6 +60,7 @@ pub record Demand1 : Type 2 where
   pub write-refused : EachWrite (λ n opens callouts old r new. r .code ≢ 0 → r .bytes ≡ 0)
   -- "and changes no lent buffer and no lister"
   pub list-keeps : EachList (λ e n opens callouts r e′. r .code ≢ 0 → e′ ≡ e)
+  pub sheet-keeps : EachSheet (λ n opens callouts g old r new. r ≢ 0 → new ≡ old)
   pub usable-keeps : EachUsable (λ n opens callouts old r new. r ≢ 0 → new ≡ old)
   pub count-keeps : EachCount (λ n opens callouts tally r new. r .code ≢ 0 → new ≡ tally)
   pub grade-keeps : EachGrade (λ n opens callouts tally r new. r .code ≢ 0 → new ≡ tally)

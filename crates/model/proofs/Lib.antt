@@ -24,4 +24,5 @@ pub mod Editions
 pub mod FileBlocks
 pub mod Files
 pub mod RoundTrips
+pub mod Sheet
 pub mod ListingLength

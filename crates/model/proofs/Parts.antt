@@ -59,6 +59,13 @@ module _ (a n : ℕ) (l y : List ℕ) where
 
 -- ---- lists of small numbers
 
+-- a list of two
+pub pair : (l : List ℕ) → length l ≡ 2 → l ≡ getD l 0 0 ∷ getD l 1 0 ∷ []
+pair [] e = absurd (omega arith)
+pair (a ∷ []) e = absurd (omega arith)
+pair (a ∷ b ∷ []) e = refl
+pair (a ∷ b ∷ c ∷ l) e = absurd (omega arith)
+
 -- m numbers below c
 pub record Numbers (c m : ℕ) (l : List ℕ) : Type 0 where
   pub count : length l ≡ m

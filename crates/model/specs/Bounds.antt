@@ -11,6 +11,7 @@ use Rattle.model.specs.File.{blocksFor, fileCode}
 use Rattle.model.specs.Refusal.{fleetCode, roomCode}
 use Rattle.model.specs.CountAnswers.{countCode}
 use Rattle.model.specs.Decimal.{decimal}
+use Rattle.model.specs.Sheet.{aligned, markOf}
 use Rattle.model.specs.ListingText.{lastLine, listingOf}
 
 -- acceptance, and what count, grade and price add
@@ -68,6 +69,19 @@ pub record Figures : Type 0 where
 pub figures : Figures
 unfolding gradeOf rate blocksFor
 figures = search refl
+
+-- a number in the columns of a sheet; the mark of the highest slot
+pub record Columned : Type 0 where
+  pub nought : aligned 0 ≡ 32 ∷ 48 ∷ []
+  pub one-digit : aligned 9 ≡ 32 ∷ 57 ∷ []
+  pub two-digits : aligned 10 ≡ 49 ∷ 48 ∷ []
+  pub highest : aligned 63 ≡ 54 ∷ 51 ∷ []
+  pub callout : markOf (2 ^ 63 ∷ []) (63 ∷ []) 0 ≡ 67
+  pub no-callout : markOf ((2 ^ 63 - 1) ∷ []) (63 ∷ []) 0 ≡ 32
+
+pub columned : Columned
+unfolding aligned markOf
+columned = search refl
 
 -- numbers in a listing; its last line below, at and above the 1,000 plans that are listed; and 1,001 plans of no items, of which 1,000 lines of
 -- 7 to 10 bytes are written, between 7 bytes and 10

@@ -16,9 +16,11 @@ pub mod UsableAnswers
 pub mod CountAnswers
 pub mod PriceAnswers
 pub mod FileAnswers
+pub mod SheetAnswers
 pub mod Lister
 pub mod Listing
 pub mod Decimal
+pub mod Sheet
 pub mod ListingText
 pub mod Rows
 pub mod Bounds

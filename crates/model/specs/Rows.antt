@@ -4,12 +4,14 @@ use mathlib.Core.List.{List, [], _∷_, _++_}
 use Prim.Native.Nat.{ℕ, _+_, _*_}
 use lib.ListN.{length, getD, take, drop, replicate}
 use Rattle.model.specs.declared.Edition.{Edition}
+use Rattle.model.specs.declared.Plan.{Plan}
 use Rattle.model.specs.Plans.{plans, blank}
 use Rattle.model.specs.Allowed.{allowedWords}
 use Rattle.model.specs.Count.{permanent, subsetCounts}
 use Rattle.model.specs.File.{fileBytes, fileCode, itemsIn, opensIn, calloutsIn}
 use Rattle.model.specs.PlanAnswers.{firstAnswer, nextAnswer, fewestAnswer, cellAnswer, given, refused, short, overCap}
 use Rattle.model.specs.CountAnswers.{countAnswer}
+use Rattle.model.specs.SheetAnswers.{sheetCode, sheetAfter}
 use Rattle.model.specs.PriceAnswers.{gradeAnswer, priceAnswer}
 use Rattle.model.specs.ListingText.{listingText}
 
@@ -95,6 +97,28 @@ pub record Listings : Type 0 where
 pub listings : Listings
 unfolding listingText fileBytes
 listings = search refl
+
+-- a line of a sheet, from what stands in columns 0, 1, 6, 7 and 12
+abbrev printed : ℕ → ℕ → ℕ → ℕ → ℕ → List ℕ
+printed a b c d mark = (a ∷ b ∷ replicate 4 32) ++ (c ∷ d ∷ replicate 4 32) ++ (mark ∷ replicate 18 32) ++ (10 ∷ [])
+
+abbrev T-plan : Plan
+T-plan = record { slots = slots 0 2 1 }
+
+-- T's sheet for plan 0 2 1, in a page of one byte more; a page of one byte less; a record that is no plan, and such a page too
+pub record Sheets : Type 0 where
+  pub T-sheet : sheetAfter 3 3 T-opens T-callouts T-plan (replicate 129 7)
+      ≡ printed 73 84 83 76 67 ++ printed 32 48 32 48 67 ++ printed 32 49 32 50 32 ++ printed 32 50 32 49 32 ++ (7 ∷ [])
+  pub T-room : sheetCode 3 3 T-opens T-callouts T-plan 128 ≡ 0
+  pub T-no-room : sheetCode 3 3 T-opens T-callouts T-plan 127 ≡ 15
+  pub T-other : sheetCode 3 3 T-opens T-callouts (record { slots = slots 2 0 1 }) 128 ≡ 8
+  pub T-room-first : sheetCode 3 3 T-opens T-callouts (record { slots = slots 2 0 1 }) 127 ≡ 15
+  pub T-tables-first : sheetCode 3 3 T-opens (4 ∷ 0 ∷ 4 ∷ []) T-plan 127 ≡ 4
+  pub T-kept : sheetAfter 3 3 T-opens T-callouts (record { slots = slots 2 0 1 }) (replicate 129 7) ≡ replicate 129 7
+
+pub sheets : Sheets
+unfolding sheetCode sheetAfter
+sheets = search refl
 
 -- T's tally and its permanent
 pub T-tally : subsetCounts 3 T-opens ≡ 1 ∷ 1 ∷ 1 ∷ 2 ∷ 0 ∷ 1 ∷ 1 ∷ 3 ∷ []

@@ -68,6 +68,16 @@ pub fn adopt(opens: &[u64], plan: [u8; 64], owner: &mut [u8; 64]) -> Adoption
     adopt_items(opens, plan, owner)
 }
 
+// Whether a record is a plan, where nobody asks for the holders.
+pub fn is_plan(opens: &[u64], plan: [u8; 64]) -> bool
+    requires { ⌜ length (now opens) ≤ 64 ⌝ }
+    ensures { λ r. ⌜ (r ≡ true → IsPlan (now (opens .entry)) plan) × (r ≡ false → IsPlan (now (opens .entry)) plan → ⊥) ⌝ }
+{
+    let mut owner = [0u8; 64];
+    let a = adopt(opens, plan, &mut owner);
+    a.ok
+}
+
 // 1 if the slot is in the callout word, else 0.
 fn callout(word: u64, j: u8) -> u64
     ensures { λ r. ⌜ r ≡ bit word j ⌝ }

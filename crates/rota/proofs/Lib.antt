@@ -1,4 +1,5 @@
 mod TableCalls
+mod SheetCalls
 mod Countable
 mod Priced
 mod Stepping

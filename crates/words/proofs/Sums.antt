@@ -3,7 +3,7 @@
 use mathlib.Core.Path.{_≡_, refl, sym, ap, ap₂, _∙_}
 use mathlib.Core.Logic.{_≢_, inl, inr}
 use mathlib.Core.Bool.{cond}
-use mathlib.Core.List.{List, [], _∷_, map, List·Memᴰ, List·Memᴰ·head, List·Memᴰ·tail, List·Memᴰ·not-nil, List·Memᴰ·cases-cons}
+use mathlib.Core.List.{List, [], _∷_, _++_, map, List·Memᴰ, List·Memᴰ·head, List·Memᴰ·tail, List·Memᴰ·not-nil, List·Memᴰ·cases-cons}
 use Prim.Native.Nat.{ℕ, zero, suc, _+_, _-_, _*_, _≤_, _<_}
 use native.Mathlib.Nat.{add-zero, zero-add, add-suc, suc-add, mul-zero, mul-add}
 use native.Mathlib.Decide.{ℕ-discrete}
@@ -49,6 +49,16 @@ unfolding upFrom
 map-upFrom f d a zero i h = absurd (omega arith)
 map-upFrom f d a (suc n) zero h = ap f (sym (add-zero a))
 map-upFrom f d a (suc n) (suc i) h = map-upFrom f d (suc a) n i (omega arith) ∙ ap f (suc-add a i ∙ sym (add-suc a i))
+
+-- the last of them
+upFrom-snoc : (a n : ℕ) → upFrom a (suc n) ≡ upFrom a n ++ ((a + n) ∷ [])
+unfolding upFrom
+upFrom-snoc a zero = ap (_∷ []) (sym (add-zero a))
+upFrom-snoc a (suc n) = ap (a ∷_) (upFrom-snoc (suc a) n ∙ ap (λ x. upFrom (suc a) n ++ (x ∷ [])) (suc-add a n ∙ sym (add-suc a n)))
+
+pub below-snoc : (n : ℕ) → below (suc n) ≡ below n ++ (n ∷ [])
+unfolding below
+below-snoc n = upFrom-snoc 0 n ∙ ap (λ x. upFrom 0 n ++ (x ∷ [])) (zero-add n)
 
 -- a table made from a function
 pub map-below : {A : Type 0} (f : ℕ → A) (d : A) (n i : ℕ) → i < n → getD (map f (below n)) i d ≡ f i

@@ -8,6 +8,9 @@ use crate::rota::{Cell, Plan};
 use crate::session::{agree, differing, Outcome, Session};
 use crate::wrappers::{LentLister, LentTables};
 
+/// Bytes of sheets and others, which fill a page before a call.
+const OLD_BYTES: [u8; 5] = [b' ', b'\n', b'C', 0, 255];
+
 /// The lister as it should be, beside the lent one.
 pub struct Lister {
     pub started: bool,
@@ -124,6 +127,29 @@ impl Session {
             self.making(&input);
             let got = self.calls.cell(&mut tables, cell);
             agree(&input, [differing(&input.plan_answer(input.refusal()), &got), tables.changed()])?;
+        }
+        Ok(())
+    }
+
+    /// A page with random bytes in it, or with one byte everywhere.
+    pub fn page(&mut self, bytes: usize) -> Lent<u8> {
+        match self.random.below(10) {
+            turn @ 0..=4 => Lent::holding("page", &vec![OLD_BYTES[turn]; bytes], &mut self.random),
+            _ => Lent::junk("page", bytes, &mut self.random),
+        }
+    }
+
+    /// A case for each given plan and length of the page; the tables are lent once for all of them.
+    pub fn plan_sheets(&mut self, known: &Known, given: impl IntoIterator<Item = (Plan, usize)>) -> Outcome {
+        let mut tables = self.lend(known);
+        for (given, bytes) in given {
+            let input = Input { given, room: [bytes, 0], ..Input::new(Call::PlanSheet, known) };
+            self.case(input.call);
+            self.making(&input);
+            let mut page = self.page(bytes);
+            let got = self.calls.sheet(&mut tables, &given, &mut page);
+            let code = input.refusal();
+            agree(&input, [differing(&code, &got), tables.changed(), page.differs(&input.sheet(code))])?;
         }
         Ok(())
     }

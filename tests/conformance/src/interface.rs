@@ -108,6 +108,10 @@ calls! {
         n: usize, opens: *const u64, opens_len: usize, callouts: *const u64, callouts_len: usize,
         item: usize, slot: usize
     ) -> PlanAnswer;
+    plan_sheet rota_plan_sheet(
+        n: usize, opens: *const u64, opens_len: usize, callouts: *const u64, callouts_len: usize, given: PlanRecord,
+        page: *mut u8, page_len: usize
+    ) -> u32;
     count_plans rota_count_plans(
         n: usize, opens: *const u64, opens_len: usize, callouts: *const u64, callouts_len: usize,
         tally: *mut u64, tally_len: usize

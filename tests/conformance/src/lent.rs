@@ -5,8 +5,8 @@ use std::borrow::Cow;
 use std::fmt::LowerHex;
 use std::sync::OnceLock;
 
-/// Bytes of guard on each side: more than a block file.
-const GUARD: usize = 2_048;
+/// Bytes of guard on each side: more than the longest file and the longest sheet.
+const GUARD: usize = 2_112;
 
 /// Elements from which guards and junk are cut.
 const STOCK: usize = 16_384;

@@ -86,6 +86,12 @@ impl Calls {
         unsafe { (self.cell_plan)(n, opens, opens_len, callouts, callouts_len, item, slot) }
     }
 
+    pub fn sheet(&self, tables: &mut LentTables, given: &Plan, page: &mut Lent<u8>) -> u32 {
+        let (n, opens, opens_len, callouts, callouts_len) = tables.arguments();
+        let (given, bytes, len) = (PlanRecord { slots: *given }, page.pointer(), page.len());
+        unsafe { (self.plan_sheet)(n, opens, opens_len, callouts, callouts_len, given, bytes, len) }
+    }
+
     pub fn count(&self, tables: &mut LentTables, tally: &mut Lent<u64>) -> CountAnswer {
         let (n, opens, opens_len, callouts, callouts_len) = tables.arguments();
         unsafe { (self.count_plans)(n, opens, opens_len, callouts, callouts_len, tally.pointer(), tally.len()) }

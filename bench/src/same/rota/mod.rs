@@ -6,4 +6,5 @@ pub mod files;
 pub mod lister;
 pub mod plans;
 pub mod pricing;
+pub mod sheets;
 pub mod usable;

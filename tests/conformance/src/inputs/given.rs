@@ -16,6 +16,11 @@ pub fn some_plan(known: &Known, random: &mut Random) -> Plan {
     found.unwrap_or_else(|| plan_of(&random.permutation(adjacent.len())))
 }
 
+/// Every complete plan, in dictionary order.
+pub fn every_plan(known: &Known) -> impl Iterator<Item = Plan> + '_ {
+    std::iter::successors(known.first(), |plan| known.next(plan))
+}
+
 pub fn random_bytes(random: &mut Random) -> Plan {
     std::array::from_fn(|_| random.byte())
 }

@@ -10,7 +10,10 @@ const WRONG_N: [usize; 12] =
 
 /// Accepted tables with faults put in: bit k - 1 of `faults` asks for refusal k's fault.
 pub fn tables(n: usize, faults: usize, random: &mut Random) -> Tables {
-    let mut tables = families::any(n, random);
+    with_faults(families::any(n, random), faults, random)
+}
+
+pub fn with_faults(mut tables: Tables, faults: usize, random: &mut Random) -> Tables {
     if has(faults as u64, 2) {
         slot_outside(&mut tables, random);
     }

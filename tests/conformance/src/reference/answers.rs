@@ -1,6 +1,6 @@
 //! Which call tests what, in which order, and what it answers.
 
-use super::{pricing, rota_file, Known};
+use super::{pricing, rota_file, sheet, Known};
 use crate::interface::{CountAnswer, GradeAnswer, PlanAnswer, PlanRecord, PriceAnswer, ReadAnswer, WriteAnswer};
 use crate::rota::{plan_text, Cell, Plan, BLANK};
 use std::fmt;
@@ -16,6 +16,7 @@ pub enum Call {
     FewestCallouts,
     UsableSlots,
     CellPlan,
+    PlanSheet,
     CountPlans,
     Grade,
     MonthlyPrice,
@@ -28,13 +29,14 @@ pub enum Call {
 
 use Call::*;
 
-pub const CALLS: [Call; 14] = [
+pub const CALLS: [Call; 15] = [
     FirstPlan,
     NextPlan,
     ListPlan,
     FewestCallouts,
     UsableSlots,
     CellPlan,
+    PlanSheet,
     CountPlans,
     Grade,
     MonthlyPrice,
@@ -54,6 +56,7 @@ impl Call {
             FewestCallouts => "rota_fewest_callouts",
             UsableSlots => "rota_usable_slots",
             CellPlan => "rota_cell_plan",
+            PlanSheet => "rota_plan_sheet",
             CountPlans => "rota_count_plans",
             Grade => "rota_grade",
             MonthlyPrice => "rota_monthly_price",
@@ -75,6 +78,7 @@ impl Call {
             FewestCallouts => &[1, 2, 3, 4, 9, 11],
             UsableSlots | WriteFile => &[1, 2, 3, 4, 15],
             CellPlan => &[1, 2, 3, 4],
+            PlanSheet => &[1, 2, 3, 4, 15, 8],
             CountPlans => &[1, 2, 3, 4, 5, 6],
             Grade => &[1, 2, 3, 4, 5, 6, 9],
             MonthlyPrice => &[1, 2, 3, 4, 5, 6, 7, 9],
@@ -145,6 +149,7 @@ impl<'a> Input<'a> {
         match self.call {
             UsableSlots | ReadFile => self.known.n(),
             WriteFile => rota_file::BLOCK * rota_file::blocks_for(self.known.n()),
+            PlanSheet => sheet::bytes_for(self.known.n()),
             _ => PLAN_BYTES,
         }
     }
@@ -177,6 +182,14 @@ impl<'a> Input<'a> {
         };
         let slots = if code == 0 { self.plan() } else { BLANK };
         PlanAnswer { code, shortage, items, callouts, plan: PlanRecord { slots } }
+    }
+
+    /// What is written into the page.
+    pub fn sheet(&self, code: u32) -> Vec<u8> {
+        match code {
+            0 => sheet::text(&self.known.tables, &self.given).into_bytes(),
+            _ => vec![],
+        }
     }
 
     pub fn count_answer(&self, code: u32) -> CountAnswer {
@@ -221,7 +234,7 @@ impl fmt::Display for Input<'_> {
         }
         match self.call {
             FewestCallouts | FileFewestCallouts => writeln!(f, "  cap {}", self.cap)?,
-            NextPlan | FileNextPlan => writeln!(f, "  given {}", plan_text(&self.given))?,
+            NextPlan | FileNextPlan | PlanSheet => writeln!(f, "  given {}", plan_text(&self.given))?,
             ListPlan => writeln!(f, "  lister started {}, plan {}", self.started, plan_text(&self.given))?,
             MonthlyPrice => writeln!(f, "  vehicles {}", self.vehicles)?,
             CellPlan => writeln!(f, "  item {}, slot {}", self.cell.0, self.cell.1)?,

@@ -8,6 +8,7 @@ pub mod matching;
 pub mod permanent;
 pub mod pricing;
 pub mod rota_file;
+pub mod sheet;
 
 use crate::rota::{low, Cell, Plan, Tables};
 use std::cell::OnceCell;

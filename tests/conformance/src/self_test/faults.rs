@@ -1,7 +1,7 @@
 //! Faults of the stand-in: a changed reply, an exchanged order of tests, a buffer written where it should be kept.
 
 use super::mock::Reply;
-use super::{systematic, wrong, wrong_cells, wrong_files};
+use super::{systematic, wrong, wrong_cells, wrong_files, wrong_sheets};
 use crate::reference::answers::{Call, Input};
 use std::sync::Arc;
 
@@ -111,6 +111,7 @@ pub fn all() -> Vec<Fault> {
     let mut faults = systematic::faults();
     faults.extend(wrong::faults());
     faults.extend(wrong_cells::faults());
+    faults.extend(wrong_sheets::faults());
     faults.extend(wrong_files::faults());
     faults
 }

@@ -3,7 +3,7 @@
 use crate::inputs::{families, given};
 use crate::random::Random;
 use crate::reference::answers::{Call, Input};
-use crate::reference::{assignment, definitions, layers, matching, permanent, rota_file, Known, Method};
+use crate::reference::{assignment, definitions, layers, matching, permanent, rota_file, sheet, Known, Method};
 use crate::rota::{low, plan_of, Plan, Tables, BLANK};
 
 /// Compares and counts; a difference ends the program.
@@ -40,6 +40,7 @@ fn with_definitions(rota: &Tables) -> u64 {
     for (place, plan) in plans.iter().enumerate() {
         assert!(matching::is_plan(rota, plan), "a complete plan of\n{rota}");
         compared += same!(rota, "next plan", matching::next(rota, plan), plans.get(place + 1).copied());
+        compared += same!(rota, "sheet", sheet::text(rota, plan).into_bytes(), sheet_by_columns(rota, plan));
     }
     compared += same!(rota, "usable table", matching::usable(rota), definitions::usable(rota, &plans));
     for cell in (0..=rota.n).flat_map(|item| (0..=rota.n).map(move |slot| (item, slot))) {
@@ -55,6 +56,27 @@ fn with_definitions(rota: &Tables) -> u64 {
     compared += same!(rota, "fewest callouts by layers", layers::fewest(rota), fewest);
     compared += same!(rota, "tally", layers::tally(rota), definitions::tally(rota));
     compared + same!(rota, "count", permanent::permanent(&rota.opens, low(rota.n)), plans.len() as u64)
+}
+
+/// The sheet byte by byte: what stands in each column of each line.
+fn sheet_by_columns(rota: &Tables, plan: &Plan) -> Vec<u8> {
+    let mut bytes = vec![b' '; sheet::bytes_for(rota.n)];
+    for (at, letter) in [(0, b'I'), (1, b'T'), (6, b'S'), (7, b'L'), (12, b'C')] {
+        bytes[at] = letter;
+    }
+    for (item, line) in bytes.chunks_mut(32).skip(1).enumerate() {
+        for (column, number) in [(0, item as u8), (6, plan[item])] {
+            line[column + 1] = b'0' + number % 10;
+            if number >= 10 {
+                line[column] = b'0' + number / 10;
+            }
+        }
+        if rota.callouts[item] >> plan[item] & 1 == 1 {
+            line[12] = b'C';
+        }
+    }
+    bytes.chunks_mut(32).for_each(|line| line[31] = 10);
+    bytes
 }
 
 /// The number of complete plans before this one, by Ryser's formula.
@@ -118,6 +140,7 @@ fn with_each_other(rota: &Tables, random: &mut Random) -> u64 {
         compared += same!(rota, "the first plan is the least", first <= plan, true);
         compared += same!(rota, "the next plan comes after", next.is_none_or(|next| next > plan), true);
         compared += same!(rota, "no plan is passed over", passed, false);
+        compared += same!(rota, "sheet", sheet::text(rota, &plan).into_bytes(), sheet_by_columns(rota, &plan));
         let callouts = rota.callouts_of(&plan);
         compared +=
             same!(rota, "the fewest callouts", callouts > number || callouts == number && cheapest <= plan, true);
@@ -152,6 +175,12 @@ fn worked_rows() -> u64 {
         compared += same!(t.tables, "price", priced.price_answer(priced.refusal()).cents, 33_000);
         let capped = Input { cap: 0, ..Input::new(Call::FewestCallouts, &t) };
         compared += same!(t.tables, "cap 0", (capped.refusal(), capped.plan_answer(11).callouts), (11, 1));
+        let lines = ["IT    SL    C", " 0     0    C", " 1     1     ", " 2     2    C"];
+        let expected: String = lines.iter().map(|line| format!("{line}{}\n", " ".repeat(18))).collect();
+        compared += same!(t.tables, "sheet", sheet::text(&t.tables, &plans[0]), expected);
+        let printed = |given: Plan, room: usize| Input { given, room: [room, 0], ..Input::new(Call::PlanSheet, &t) };
+        let codes = [printed(plans[2], 128), printed(plans[2], 127), printed(BLANK, 128), printed(BLANK, 127)];
+        compared += same!(t.tables, "sheet's refusals", codes.map(|input| input.refusal()), [0, 15, 8, 15]);
         let two = by(Tables::open(&[7, 6, 6]));
         compared += same!(two.tables, "plans", (two.first(), two.last()), (Some(plans[0]), Some(plans[1])));
         compared += same!(two.tables, "usable", two.usable(), [1, 6, 6]);

@@ -23,6 +23,8 @@ pub struct Reply {
     pub words: Vec<u64>,
     pub more_words: Vec<u64>,
     pub bytes: Vec<u8>,
+    /// Places among these bytes that keep the lent ones.
+    pub kept: Vec<usize>,
     pub lister: (bool, Plan),
 }
 
@@ -39,6 +41,7 @@ impl Reply {
             words: vec![],
             more_words: vec![],
             bytes: vec![],
+            kept: vec![],
             lister: (input.started, input.given),
         };
         (reply.items, reply.shortage) = input.short(code);
@@ -64,6 +67,7 @@ impl Reply {
                 Call::CountPlans | Call::Grade | Call::MonthlyPrice => reply.words = input.known.tally().to_vec(),
                 Call::ReadFile => (reply.words, reply.more_words) = (tables.opens.clone(), tables.callouts.clone()),
                 Call::WriteFile => reply.bytes = rota_file::bytes_of(tables),
+                Call::PlanSheet => reply.bytes = input.sheet(code),
                 Call::FileFirstPlan | Call::FileNextPlan | Call::FileFewestCallouts => {
                     reply.bytes = input.plan().to_vec()
                 }

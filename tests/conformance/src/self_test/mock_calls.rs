@@ -4,7 +4,7 @@ use super::faults::Buffer;
 use super::mock::{reply, Reply};
 use crate::interface::*;
 use crate::reference::answers::{Call, Input};
-use crate::reference::{rota_file, Known, Method};
+use crate::reference::{rota_file, sheet, Known, Method};
 use crate::rota::{Tables, BLANK};
 
 pub fn calls() -> Calls {
@@ -15,6 +15,7 @@ pub fn calls() -> Calls {
         fewest_callouts,
         usable_slots,
         cell_plan,
+        plan_sheet,
         count_plans,
         grade,
         monthly_price,
@@ -140,6 +141,28 @@ unsafe extern "C" fn cell_plan(
     slot: usize,
 ) -> PlanAnswer {
     plan_answer(&Lending(n, o, o_len, c, c_len).reply(Call::CellPlan, None, |input| input.cell = (item, slot)))
+}
+
+unsafe extern "C" fn plan_sheet(
+    n: usize,
+    o: *const u64,
+    o_len: usize,
+    c: *const u64,
+    c_len: usize,
+    given: PlanRecord,
+    page: *mut u8,
+    len: usize,
+) -> u32 {
+    let old = elements(page, len);
+    let output = Buffer::output(page, len, sheet::bytes_for(n));
+    let mut reply = Lending(n, o, o_len, c, c_len).reply(Call::PlanSheet, Some(output), |input| {
+        (input.given, input.room[0]) = (given.slots, len);
+    });
+    for at in reply.kept {
+        reply.bytes[at] = old[at];
+    }
+    store(page, &reply.bytes);
+    reply.code
 }
 
 unsafe extern "C" fn count_plans(

@@ -8,6 +8,7 @@ mod systematic;
 mod wrong;
 mod wrong_cells;
 mod wrong_files;
+mod wrong_sheets;
 
 use crate::parallel::{processors, spread};
 use crate::session::Session;
@@ -17,9 +18,16 @@ use std::process::ExitCode;
 
 const SEED: u64 = 1;
 
+/// The subjects that find wrong sheets; without a fault they find nothing.
+const FAULTLESS: [&str; 3] = ["refusals", "sheets", "apart"];
+
 pub fn run() -> ExitCode {
     let compared = methods::run();
     println!("self-test: {compared} comparisons between methods agree");
+    if let Some(subject) = FAULTLESS.into_iter().find(|subject| find(&Fault::none().found_by(subject)).is_ok()) {
+        println!("self-test: found without a fault: {subject}");
+        return ExitCode::FAILURE;
+    }
     let faults = faults::all();
     match spread(faults.len() as u64, processors(), |turn| find(&faults[turn as usize])) {
         Ok(found) => {

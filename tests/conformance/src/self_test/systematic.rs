@@ -58,7 +58,7 @@ fn fields(call: Call) -> Vec<Field> {
         ],
         CountPlans | ReadFile | WriteFile => vec![number],
         Grade | MonthlyPrice => vec![number, shortage, items],
-        UsableSlots | FileFirstPlan | FileNextPlan | FileFewestCallouts => vec![],
+        UsableSlots | PlanSheet | FileFirstPlan | FileNextPlan | FileFewestCallouts => vec![],
     }
 }
 
@@ -76,7 +76,7 @@ fn other_fields(call: Call, code: u32, list: &mut Vec<Fault>) {
 fn buffers(call: Call) -> (usize, &'static [usize]) {
     match call {
         FirstPlan | NextPlan | FewestCallouts | CellPlan => (2, &[]),
-        ListPlan | UsableSlots | CountPlans | Grade | MonthlyPrice | WriteFile => (3, &[2]),
+        ListPlan | UsableSlots | PlanSheet | CountPlans | Grade | MonthlyPrice | WriteFile => (3, &[2]),
         ReadFile => (3, &[1, 2]),
         FileFirstPlan | FileNextPlan | FileFewestCallouts => (2, &[1]),
     }

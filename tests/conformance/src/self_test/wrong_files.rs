@@ -274,6 +274,7 @@ fn table_faults() -> Vec<Fault> {
         FewestCallouts,
         UsableSlots,
         CellPlan,
+        PlanSheet,
         CountPlans,
         Grade,
         MonthlyPrice,

@@ -5,6 +5,7 @@ use crate::inputs::given;
 use crate::random::Random;
 use crate::reference::answers::GREATEST_COUNTED;
 use crate::reference::rota_file::{blocks_for, BLOCK};
+use crate::reference::sheet::{self, LINE};
 use crate::reference::Known;
 use crate::rota::Cell;
 use crate::session::{Outcome, Session};
@@ -48,6 +49,10 @@ pub fn calls_on_tables(
         session.usable_slots(known, words)?;
     }
     session.cell_plans(known, cells.iter().copied())?;
+    let pages = pages(known.n().min(64));
+    let exact = plans.iter().map(|plan| (*plan, pages[0]));
+    let others = plans.iter().cycle().zip(&pages[1..]).map(|(plan, &bytes)| (*plan, bytes));
+    session.plan_sheets(known, exact.chain(others))?;
     for bytes in lengths(BLOCK * blocks_for(known.n()), random) {
         session.write_file(known, bytes)?;
     }
@@ -57,6 +62,12 @@ pub fn calls_on_tables(
 /// One too short, none at all, exact, one too long, longer.
 pub fn lengths(needed: usize, random: &mut Random) -> [usize; 5] {
     [needed.saturating_sub(1), 0, needed, needed + 1, needed + 2 + random.below(100)]
+}
+
+/// The lengths of pages for so many items: exact, one too long, one too short, a line too short, none at all, much longer.
+pub fn pages(n: usize) -> [usize; 6] {
+    let exact = sheet::bytes_for(n);
+    [exact, exact + 1, exact - 1, n * LINE, 0, exact + 10 * LINE + 5]
 }
 
 fn calls_on_tally(session: &mut Session, known: &Known, random: &mut Random) -> Outcome {

@@ -1,5 +1,6 @@
 //! What is tried, subject by subject. Each has a random stream of its own.
 
+mod apart;
 mod battery;
 mod cells;
 mod counts;
@@ -8,6 +9,7 @@ mod files;
 mod listings;
 mod prices;
 mod refusals;
+mod sheets;
 mod sizes;
 mod small;
 mod worked;
@@ -17,11 +19,13 @@ use crate::session::{Outcome, Session};
 
 type Subject = fn(&mut Session, &mut Random) -> Outcome;
 
-const SUBJECTS: [(&str, Subject); 10] = [
+const SUBJECTS: [(&str, Subject); 12] = [
     ("worked", worked::run),
     ("refusals", refusals::run),
     ("small", small::run),
     ("cells", cells::run),
+    ("sheets", sheets::run),
+    ("apart", apart::run),
     ("listings", listings::run),
     ("prices", prices::run),
     ("files", files::run),

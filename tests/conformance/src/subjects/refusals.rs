@@ -2,10 +2,11 @@
 
 use super::battery;
 use crate::checks::KnownFile;
+use crate::inputs::families::{self, Callouts, Family};
 use crate::inputs::{damaged, given, refused};
 use crate::random::Random;
-use crate::reference::Known;
-use crate::rota::plan_of;
+use crate::reference::{matching, Known};
+use crate::rota::{low, plan_of, Tables};
 use crate::session::{Outcome, Session};
 
 const ROUNDS: usize = 60;
@@ -21,7 +22,8 @@ pub fn run(session: &mut Session, random: &mut Random) -> Outcome {
             refused_file(session, n, faults << 2, random)?;
         }
     }
-    wrong_lengths(session, random)
+    wrong_lengths(session, random)?;
+    sheets(session, random)
 }
 
 /// Small ones first, then all sizes, and those beside which a file has a block more.
@@ -62,6 +64,24 @@ fn wrong_lengths(session: &mut Session, random: &mut Random) -> Outcome {
                 let cells = given::any_cells(random);
                 battery::calls_on_tables(session, &Known::new(tables), &plans, &[0], &cells, random)?;
             }
+        }
+    }
+    Ok(())
+}
+
+/// Plan sheets over every set of faults, with pages of all lengths. The given record is a complete plan but for them, or is none.
+fn sheets(session: &mut Session, random: &mut Random) -> Outcome {
+    for n in [1, 2, 3, 9, 10, 32, 63, 64] {
+        for faults in 0..16 {
+            let rota = families::rota(Family::Full, Callouts::Some, n, random);
+            let tables = refused::with_faults(rota, faults, random);
+            let opens: Vec<u64> = tables.opens.iter().take(n).map(|open| open & low(n)).collect();
+            let plan = matching::first(&Tables::open(&opens)).unwrap_or([0; 64]);
+            let mut twice = plan;
+            twice[0] = plan[n - 1];
+            let records = [plan, twice, given::random_bytes(random)];
+            let lent = battery::pages(n).into_iter().flat_map(|bytes| records.map(|record| (record, bytes)));
+            session.plan_sheets(&Known::new(tables), lent)?;
         }
     }
     Ok(())

@@ -3,7 +3,7 @@
 use super::battery;
 use crate::inputs::{families, given};
 use crate::random::Random;
-use crate::reference::{Known, Method};
+use crate::reference::{sheet, Known, Method};
 use crate::rota::{plan_of, Tables};
 use crate::session::{Outcome, Session};
 
@@ -72,6 +72,7 @@ fn few_calls(session: &mut Session, known: &Known, random: &mut Random) -> Outco
     }
     session.usable_slots(known, known.n())?;
     session.cell_plans(known, [(random.below(known.n()), random.below(known.n()))])?;
+    session.plan_sheets(known, [(plan, sheet::bytes_for(known.n()))])?;
     session.count_plans(known, 1 << known.n())?;
     session.grade(known, 1 << known.n())?;
     let vehicles = battery::fleet(random);
