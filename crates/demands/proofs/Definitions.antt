@@ -71,13 +71,13 @@ module _ (n m : ℕ) (opens callouts : List ℕ) (ok : tableCode n m opens callo
   unfolding firstFrom firstOf noPlan
   first-tests = found-9 (λ l. firstOf opens l .code) refl (λ p l. refl)
 
-  pub grade-tests : FirstOf (test9 opens ∷ []) (gradeBy opens (count m opens) .code)
+  pub grade-tests : (grade : ℕ) → FirstOf (test9 opens ∷ []) (gradeBy opens (count m opens) grade .code)
   unfolding gradeBy count
-  grade-tests = found-9 (λ l. gradeBy opens (length l) .code) refl (λ p l. refl)
+  grade-tests grade = found-9 (λ l. gradeBy opens (length l) grade .code) refl (λ p l. refl)
 
-  pub price-tests : (vehicles number : ℕ) → FirstOf (test9 opens ∷ []) (priceBy opens (count m opens) vehicles number .code)
+  pub price-tests : (cents : ℕ) → FirstOf (test9 opens ∷ []) (priceBy opens (count m opens) cents .code)
   unfolding priceBy count
-  price-tests vehicles number = found-9 (λ l. priceBy opens (length l) vehicles number .code) refl (λ p l. refl)
+  price-tests cents = found-9 (λ l. priceBy opens (length l) cents .code) refl (λ p l. refl)
 
   pub short-is : m ≤ 64 → plans m opens ≡ [] → IsShort opens (deficiency opens) (deficientSet opens)
   short-is slots e =

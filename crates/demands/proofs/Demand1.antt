@@ -90,7 +90,7 @@ module _ (n : ℕ) (opens callouts : List ℕ) where
 
   grade-number : (tally : List ℕ)
       → FirstOf (tables n opens callouts (test5 n ∷ test6 n tally ∷ test9 opens ∷ [])) (gradeAnswer n n opens callouts (length tally) .code)
-  grade-number tally = rw (grade-code n n opens callouts (length tally)) (counted tally _ _ (grade-tests n n opens callouts))
+  grade-number tally = rw (grade-code n n opens callouts (length tally)) (counted tally _ _ (λ ok. grade-tests n n opens callouts ok _))
 
   price-number : (vehicles : ℕ) (tally : List ℕ)
       → FirstOf (tables n opens callouts (test5 n ∷ test6 n tally ∷ test7 vehicles ∷ test9 opens ∷ []))
@@ -99,7 +99,7 @@ module _ (n : ℕ) (opens callouts : List ℕ) where
   price-number vehicles tally =
       rw (price-code n n opens callouts (length tally) vehicles, or-assoc (countCode n n opens callouts (length tally)))
       (counted tally _ _ (λ ok.
-      test-first (test7 vehicles) 6 _ refl (either _ _ _ _ (equals vehicles 0) (less 10000 vehicles)) _ _ (λ v. price-tests n n opens callouts ok vehicles _)))
+      test-first (test7 vehicles) 6 _ refl (either _ _ _ _ (equals vehicles 0) (less 10000 vehicles)) _ _ (λ v. price-tests n n opens callouts ok _)))
 
 module _ (file : List ℕ) where
   abbrev n : ℕ

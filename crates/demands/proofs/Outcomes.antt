@@ -153,11 +153,11 @@ module _ (n : ℕ) (opens callouts : List ℕ) where
 -- ---- grade and price
 
 module _ (n : ℕ) (opens callouts : List ℕ) where
-  graded-is : (p : List ℕ) (l : List (List ℕ)) → plans n opens ≡ p ∷ l → Graded (permanent n opens) opens (rotaGrade opens (suc (length l)))
+  graded-is : (p : List ℕ) (l : List (List ℕ)) → plans n opens ≡ p ∷ l → Graded (permanent n opens) opens (rotaGrade n opens)
   unfolding rotaGrade count
   graded-is p l e =
-      let P = permanent-is-count n opens ∙ ap length e in
-      record { some = omega (arith, P); rules = ap (λ x. gradeOf x (someForced opens)) (sym P) }
+      let P = permanent-is-count n opens in
+      record { some = omega (arith, P, ap length e); rules = ap (λ x. gradeOf x (someForced opens)) (sym P) }
 
   some-fewest : tableCode n n opens callouts ≡ 0 → (p : List ℕ) (l : List (List ℕ)) → plans n opens ≡ p ∷ l → IsFewest opens callouts (fewest n opens callouts)
   some-fewest ok p l e = elim (fewestPlans n opens callouts) as (λ f. fewestPlans n opens callouts ≡ f → IsFewest opens callouts (fewest n opens callouts))
@@ -176,7 +176,7 @@ module _ (n : ℕ) (opens callouts : List ℕ) where
   pub grade-says : (words : ℕ) → GradeSays (gradeAnswer n n opens callouts words)
   unfolding gradeAnswer gradeBy count
   grade-says words =
-      outcome GradeSays gradeRefused (countCode n n opens callouts words) (λ l. gradeBy opens (length l)) (plans n opens) (count-low n opens callouts words)
+      outcome GradeSays gradeRefused (countCode n n opens callouts words) (λ l. gradeBy opens (length l) (rotaGrade n opens)) (plans n opens) (count-low n opens callouts words)
       (λ c h. (λ d. (refl, λ x. (refl, refl)), λ z. absurd (omega arith), λ z. absurd (omega arith)))
       (λ ok e. (λ d. (refl, λ x. absurd (x refl)), λ z. absurd (omega arith), λ z. is-short n opens callouts (counted-tables words ok) e))
       (λ ok p l e. (λ d. absurd (d refl), λ z. (graded-is p l e, refl, refl), λ z. absurd (omega arith)))
@@ -194,7 +194,7 @@ module _ (n : ℕ) (opens callouts : List ℕ) where
     price-says =
         let tables : priceCode n n opens callouts vehicles words ≡ 0 → tableCode n n opens callouts ≡ 0 =
         λ z. counted-tables words (neither-refuses _ _ z .0) in
-        outcome PriceSays priceRefused (priceCode n n opens callouts vehicles words) (λ l. priceBy opens (length l) vehicles (fewest n opens callouts))
+        outcome PriceSays priceRefused (priceCode n n opens callouts vehicles words) (λ l. priceBy opens (length l) (monthlyPrice (rotaGrade n opens) vehicles (fewest n opens callouts)))
         (plans n opens) (price-low n opens callouts vehicles words)
         (λ c h. (λ d. (refl, λ x. (refl, refl)), λ z. absurd (omega arith), λ z. absurd (omega arith)))
         (λ ok e. (λ d. (refl, λ x. absurd (x refl)), λ z. absurd (omega arith), λ z. is-short n opens callouts (tables ok) e))

@@ -14,6 +14,7 @@ use Rattle.model.specs.Refusal.{orElse, unless}
 use Rattle.model.specs.Rota.{tableCode}
 use Rattle.model.specs.Fewest.{fewest}
 use Rattle.model.specs.Count.{count}
+use Rattle.model.specs.Grade.{rotaGrade, monthlyPrice}
 use Rattle.model.specs.File.{itemsIn, slotsIn, opensIn, calloutsIn}
 use Rattle.model.specs.PlanAnswers.{refused, firstFrom, firstAnswer, nextFrom, nextAnswer, fewestFrom, fewestAnswer, cellAnswer}
 use Rattle.model.specs.CountAnswers.{countRefused, countCode, countAnswer}
@@ -46,12 +47,14 @@ module _ (n m : ℕ) (opens callouts : List ℕ) where
     unfolding countAnswer
     count-code = unless-code (λ (x : CountAnswer). x .code) countRefused (λ c. refl) (countCode n m opens callouts words) _ ∙ or-none _
 
-    pub grade-code : gradeAnswer n m opens callouts words .code ≡ orElse (countCode n m opens callouts words) (gradeBy opens (count m opens) .code)
+    pub grade-code : gradeAnswer n m opens callouts words .code
+        ≡ orElse (countCode n m opens callouts words) (gradeBy opens (count m opens) (rotaGrade m opens) .code)
     unfolding gradeAnswer
     grade-code = unless-code (λ (x : GradeAnswer). x .code) gradeRefused (λ c. refl) (countCode n m opens callouts words) _
 
     pub price-code : (vehicles : ℕ) → priceAnswer n m opens callouts vehicles words .code
-        ≡ orElse (priceCode n m opens callouts vehicles words) (priceBy opens (count m opens) vehicles (fewest m opens callouts) .code)
+        ≡ orElse (priceCode n m opens callouts vehicles words)
+        (priceBy opens (count m opens) (monthlyPrice (rotaGrade m opens) vehicles (fewest m opens callouts)) .code)
     unfolding priceAnswer
     price-code vehicles = unless-code (λ (x : PriceAnswer). x .code) priceRefused (λ c. refl) (priceCode n m opens callouts vehicles words) _
 

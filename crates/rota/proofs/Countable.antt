@@ -11,7 +11,7 @@ use Rattle.model.specs.declared.GradeAnswer.{GradeAnswer}
 use Rattle.model.specs.Refusal.{written}
 use Rattle.model.specs.Plans.{plans}
 use Rattle.model.specs.Count.{count, subsetCounts}
-use Rattle.model.specs.Grade.{rotaGrade}
+use Rattle.model.specs.Grade.{someForced, gradeOf, rotaGrade}
 use Rattle.model.specs.PlanAnswers.{firstFrom, firstOf, noPlan}
 use Rattle.model.specs.CountAnswers.{countRefused, countCode, countAnswer, countTally}
 use Rattle.model.specs.PriceAnswers.{gradeBy, gradeRefused, gradeAnswer, gradeTally}
@@ -85,7 +85,7 @@ module _ {n m : ℕ} {opens callouts tally : List ℕ} (able : Countable n m ope
   says : TellsCount m opens a
   says = first-says m opens a (ea ∙ first-wide n m opens callouts (able .passed .code) (able .passed .slots))
 
-  graded : gradeBy opens (count m opens) ≡ gradeAnswer n m opens callouts (length tally)
+  graded : gradeBy opens (count m opens) (rotaGrade m opens) ≡ gradeAnswer n m opens callouts (length tally)
   unfolding gradeAnswer
   graded = accepted-answer _ (able .code) gradeRefused _
 
@@ -93,17 +93,19 @@ module _ {n m : ℕ} {opens callouts tally : List ℕ} (able : Countable n m ope
   unfolding noPlan gradeBy gradeTally
   grade-none d =
       let short : PlanAnswer → GradeAnswer = λ x. record { code = x .code; grade = 0; shortage = x .shortage; items = x .items } in
-      kept (λ (x : GradeAnswer). x .code) _ _ tally d (ap short (says .none d .0) ∙ sym (ap (gradeBy opens) (says .none d .1)) ∙ graded)
+      kept (λ (x : GradeAnswer). x .code) _ _ tally d (ap short (says .none d .0) ∙ sym (ap (λ k. gradeBy opens k (rotaGrade m opens)) (says .none d .1)) ∙ graded)
 
   module _ (y : a .code ≡ 0) {number : ℕ} (q : number ≡ count m opens) where
     pub some-plan : 0 < number
     some-plan = subst (0 <_) (sym q) (says .some y)
 
-    pub grade-done : {g : ℕ} → g ≡ rotaGrade opens number → {u : List ℕ} → u ≡ written 0 (subsetCounts m opens) tally
+    pub grade-done : {g : ℕ} → g ≡ gradeOf number (someForced opens) → {u : List ℕ} → u ≡ written 0 (subsetCounts m opens) tally
         → Grades n m opens callouts tally (record { code = 0; grade = g; shortage = 0; items = 0 }) u
-    unfolding gradeTally gradeBy
-    grade-done {g} eg f = filled (λ (x : GradeAnswer). x .code) _ _ tally refl f (go number some-plan eg ∙ ap (gradeBy opens) q ∙ graded)
+    unfolding gradeTally gradeBy rotaGrade
+    grade-done {g} eg f =
+        filled (λ (x : GradeAnswer). x .code) _ _ tally refl f
+        (go (count m opens) (says .some y) ∙ ap (gradeBy opens (count m opens)) (eg ∙ ap (λ k. gradeOf k (someForced opens)) q) ∙ graded)
       where
-        go : (k : ℕ) → 0 < k → g ≡ rotaGrade opens k → record { code = 0; grade = g; shortage = 0; items = 0 } ≡ gradeBy opens k
-        go zero h p = absurd (omega arith)
-        go (suc k) h p = ap (λ x. record { code = 0; grade = x; shortage = 0; items = 0 }) p
+        go : (k : ℕ) → 0 < k → record { code = 0; grade = g; shortage = 0; items = 0 } ≡ gradeBy opens k g
+        go zero h = absurd (omega arith)
+        go (suc k) h = refl
