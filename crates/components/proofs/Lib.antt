@@ -1,2 +1,3 @@
 pub mod Grows
 pub mod Finishes
+pub mod AllowedTables

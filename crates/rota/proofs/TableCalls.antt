@@ -5,7 +5,6 @@ use mathlib.Core.List.{List, _++_}
 use Prim.Native.Nat.{ℕ, _≤_, _<_}
 use native.Mathlib.Omega.{arith}
 use lib.ListN.{length, take, drop}
-use lib.Seq.{ext-getD, getD-take, length-take-le}
 use Rattle.model.specs.declared.Plan.{Plan}
 use Rattle.model.specs.Rota.{tableCode}
 use Rattle.model.specs.CellPlans.{cellPlan}
@@ -17,8 +16,8 @@ use Rattle.model.proofs.Accepted.{tables-from}
 use Rattle.model.proofs.Laws.{few}
 use Rattle.model.proofs.Refusals.{or-later, stops, room-enough, room-short, refused-answer, accepted-answer, nothing-written, all-written}
 use Rattle.model.proofs.Slots.{first-wide, next-wide, fewest-wide, cell-wide, allowed-wide}
-use Rattle.model.proofs.Allowed.{length-allowed, allowed-at}
 use Rattle.components.specs.Component.{AllowedTable}
+use Rattle.components.proofs.AllowedTables.{allowed-front}
 
 -- a rota that passed the tests, and has no more slots than a word
 pub record Passed (n m : ℕ) (opens callouts : List ℕ) : Type 0 where
@@ -96,17 +95,14 @@ module _ (n m : ℕ) (opens callouts old : List ℕ) where
     pub usable-short : length old < n → Usable n m opens callouts old 15 old
     usable-short h = refuses 15 (λ x. omega arith) (sym (by-room ∙ room-short (length old) n h))
 
-    allowed-front : {r : List ℕ} → AllowedTable opens r → take n r ≡ allowedWords m opens
-    allowed-front {r} A =
-        let t = tables-from n m opens callouts (p .code) in
-        let l : length (take n r) ≡ n = length-take-le n r (enough p A) in
-        ext-getD 0 (take n r) (allowedWords m opens) (l ∙ sym (length-allowed m opens ∙ t .open-words)) (λ i h.
-        let g : i < length opens = omega (arith, t .open-words) in
-        getD-take n r i 0 (omega arith) ∙ A .word i g ∙ allowed-wide n m opens callouts (p .code) (p .slots) i g ∙ sym (allowed-at m opens i g))
+    front : {r : List ℕ} → AllowedTable opens r → take n r ≡ allowedWords m opens
+    front {r} A =
+        let words = tables-from n m opens callouts (p .code) .open-words in
+        ap (λ k. take k r) (sym words) ∙ allowed-front (few-items p) A ∙ allowed-wide n m opens callouts (p .code) (p .slots)
 
     pub usable-done : {r : List ℕ} → AllowedTable opens r → n ≤ length old → {new : List ℕ} → new ≡ take n r ++ drop (length (take n r)) old
         → Usable n m opens callouts old 0 new
     unfolding usableAfter
     usable-done A h q =
         let s = by-room ∙ room-enough (length old) n h in
-        (sym s, q ∙ ap (λ v. v ++ drop (length v) old) (allowed-front A) ∙ all-written _ s (allowedWords m opens) old)
+        (sym s, q ∙ ap (λ v. v ++ drop (length v) old) (front A) ∙ all-written _ s (allowedWords m opens) old)
