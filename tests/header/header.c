@@ -158,6 +158,7 @@ static void tables(void)
 {
     /* Word S: the ways to give the slots of S to the first items. */
     static const uint64_t ways[9] = {1, 1, 1, 2, 0, 1, 1, 3, 77};
+    static const uint64_t brittle[3] = {7, 6, 6}, none[3] = {0, 0, 0};
     uint64_t usable[4] = {9, 9, 9, 77}, tally[9];
     rota_count_answer count;
     rota_grade_answer grade;
@@ -187,6 +188,15 @@ static void tables(void)
     price = rota_monthly_price(T, 100, tally, 9);
     EXPECT(price.code == ROTA_DONE && price.cents == 33000 && price.items == 0 && price.shortage == 0);
     EXPECT(memcmp(tally, ways, sizeof tally) == 0);
+
+    /* Three slots are open to item 0, and one of them is usable. */
+    EXPECT(rota_usable_slots(3, brittle, 3, none, 3, usable, 3) == ROTA_DONE);
+    EXPECT(usable[0] == 1 && usable[1] == 6 && usable[2] == 6 && usable[3] == 77);
+    grade = rota_grade(3, brittle, 3, none, 3, tally, 9);
+    EXPECT(grade.code == ROTA_DONE && grade.grade == 2 && grade.items == 0 && grade.shortage == 0);
+    EXPECT(tally[7] == 2 && tally[8] == 77);
+    price = rota_monthly_price(3, brittle, 3, none, 3, 100, tally, 9);
+    EXPECT(price.code == ROTA_DONE && price.cents == 350 * 100 && price.items == 0 && price.shortage == 0);
 }
 
 static void files(void)

@@ -104,4 +104,7 @@ void overlapping_inputs(void)
     EXPECT(gives(rota_cell_plan(3, words, 3, words + 1, 3, 0, 1), ROTA_DONE, blank(), 0));
     EXPECT(rota_plan_sheet(3, words, 3, words + 1, 3, plan(0, 2, 1), page, sizeof page) == ROTA_DONE);
     EXPECT(page[12] == 'C' && page[32 + 12] == ' ' && page[64 + 12] == 'C' && page[96 + 12] == ' ');
+    EXPECT(rota_grade(3, words, 3, words + 1, 3, tally, 8).grade == 2);
+    price = rota_monthly_price(3, words, 3, words + 1, 3, 100, tally, 8);
+    EXPECT(price.code == ROTA_DONE && price.cents == 350 * 100 + 4500);
 }

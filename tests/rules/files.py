@@ -5,7 +5,7 @@ import subprocess
 from document import expect, match, number, span
 from examples import agrees
 from library import FILL, left, words_of
-from rotas import plain, rota_t, with_plans
+from rotas import ONE_OPEN, plain, rota_t, with_plans
 
 HOLDS = {
     "mark": '"([A-Z]+)"',
@@ -188,7 +188,7 @@ def given(layout, text):
         expect(longest == len(whole), "the longest file has", len(whole), "bytes")
         return [whole + b"\0", whole + whole]
     plans = number(*match("a rota of # plans", text))
-    return [layout.file_of(with_plans(plans)), layout.file_of(with_plans(plans, True))]
+    return [layout.file_of(with_plans(plans)), layout.file_of(with_plans(plans, ONE_OPEN))]
 
 
 def listing(doc, program, t_file):

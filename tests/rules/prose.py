@@ -4,10 +4,13 @@ import re
 
 from document import NUMBER, expect, match, number
 from files import sample
-from pricing import rules
-from rotas import plain, rota_t, with_plans
+from library import left, words_of
+from pricing import GRADED, rules
+from rotas import named, plain, rota_t, with_plans
 
-# A rule, a sentence of it with # for each number, and the names of what is found out below.
+B = plain([7, 6, 6])  # the rota that is graded step by step, for its brittle item
+
+# A rule, a sentence of it with # for each number, and the names of what is found out below; a name may stand for some numbers in a row.
 SENTENCES = (
     ("Items and slots", "n is # to #", "least-n most-n"),
     ("Open and callout words", "two tables of n #-bit words", "word"),
@@ -39,7 +42,16 @@ SENTENCES = (
     ("Lists of lister calls", "tables that give # to #, or another rota that gives #, # or #.", "bad-n not-open not-a-plan no-plan no-further"),
     ("Accepted rota", "none of the refusals # to # fits", "bad-n not-open"),
     ("Accepted rota", "if none of #, #, #, # and # does", "length check layout outside not-open"),
-    ("Monthly price", "T has # plans", "plans-of-t"),
+    ("Grade", "The rota #, #, #, step by step", "words-of-b"),
+    ("Grade", "It has # plans, # # # and # # #, so rules # and # do not fit.", "count-of-b plans-of-b before-rule"),
+    ("Grade", "Slots #, # and # are open to item #.", "open-of-b brittle-of-b"),
+    ("Grade", "items # and # need slots # and #, so both plans give item # slot #", "others-of-b needed-of-b brittle-of-b held-of-b"),
+    ("Grade", "So rule # fits, and the grade is #.", "rule-of-b grade-of-b"),
+    ("Grade", "Rules # and # are tried before rule #:", "before-rule rule-of-b"),
+    ("Grade", "and its grade is #; the last one has a brittle item, and its grade is #.", "first-graded last-graded"),
+    ("Monthly price", "The rota #, #, # has a brittle item, so its grade is #,", "words-of-b grade-of-b"),
+    ("Monthly price", "T has # plans, so rules # and # of the grade do not fit;", "plans-of-t before-rule"),
+    ("Monthly price", "each item has # usable slots or more, so rule # does not;", "least-usable-of-t rule-of-b"),
     ("Monthly price", "rule # fits, and the grade is #", "rule-of-t grade-of-t"),
     ("Monthly price", "# vehicles stand in the column", "fleet-of-t"),
     ("Monthly price", "The rate of grade # there is #", "grade-of-t rate-of-t"),
@@ -100,14 +112,34 @@ def codes(library, t):
 
 
 def price(doc, library, t):
-    """T's price for the fleet of the sum; the rate is what one vehicle more costs. The rule is the one that gives the library's grade."""
-    (line,) = doc.indented("Monthly price", "[0-9]+ ×")
+    """T's price for the fleet of the first sum; the rate is what one vehicle more costs. The rule is the one that gives the library's grade."""
+    line = doc.indented("Monthly price", "[0-9]+ ×")[0]
     fleet = number(match("# × # .*", line)[1])
     cents, more = (library.monthly_price(t, vehicles, 8).numbers["cents"] for vehicles in (fleet, fleet + 1))
     grade = library.grade(t, 8).numbers["grade"]
     (rule,) = [place + 1 for place, row in enumerate(rules(doc)) if row[3] == grade]
     return {"plans-of-t": library.count_plans(t, 8).numbers["count"], "rule-of-t": rule, "grade-of-t": grade, "fleet-of-t": fleet,
             "rate-of-t": more - cents, "callouts-of-t": library.fewest_callouts(t, 64).numbers["callouts"], "cents-of-t": cents}
+
+
+def ones(word):
+    return [slot for slot in range(64) if word >> slot & 1]
+
+
+def brittle(doc, library, t):
+    """What the library says of B, of its brittle item and of the others; T's fewest usable slots; the grades of the first and the last graded rota."""
+    usable, of_t = (words_of(left(library.usable_slots(rota, 3), "usable")) for rota in (B, t))
+    (item,) = [i for i, word in enumerate(usable) if len(ones(word)) == 1]
+    others = [i for i in range(3) if i != item]
+    first = library.first_plan(B).plan
+    grade = library.grade(B, 8).numbers["grade"]
+    (rule,) = [place + 1 for place, row in enumerate(rules(doc)) if row[3] == grade]
+    graded = [named(t, row[0]) for row in doc.table(*GRADED)]
+    first_graded, last_graded = (library.grade(rota, 1 << rota[0]).numbers["grade"] for rota in (graded[0], graded[-1]))
+    return {"words-of-b": B[1], "count-of-b": library.count_plans(B, 8).numbers["count"], "plans-of-b": first[:3] + library.next_plan(B, first).plan[:3],
+            "open-of-b": ones(B[1][item]), "brittle-of-b": item, "others-of-b": others, "needed-of-b": ones(usable[others[0]] | usable[others[1]]),
+            "held-of-b": ones(usable[item]), "rule-of-b": rule, "before-rule": range(1, rule), "grade-of-b": grade,
+            "least-usable-of-t": min(len(ones(word)) for word in of_t), "first-graded": first_graded, "last-graded": last_graded}
 
 
 def figures(library, program, t):
@@ -159,10 +191,15 @@ def prose(doc, library, program, header, places=None):
         declared = page.read()
     (bits,) = set(re.findall(r"uint(\d+)_t cap\b", declared))
     expect(re.search(r"rota_cell_plan\([^;]*\bsize_t item,\s+size_t slot\);", declared), "a cell's item or slot is no size_t")
-    known = {"cap": int(bits), "size": 8 * ctypes.sizeof(ctypes.c_size_t), **codes(library, t), **price(doc, library, t), **figures(library, program, t)}
-    for title, sentence, wanted in SENTENCES:
-        for (start, end), name in zip(numbers_in(doc, title, sentence), wanted.split()):
-            expect(int(text[start:end].replace(",", "")) == known[name], title, "-", sentence, "- the library has", known[name])
+    known = {"cap": int(bits), "size": 8 * ctypes.sizeof(ctypes.c_size_t), **codes(library, t), **price(doc, library, t), **brittle(doc, library, t),
+             **figures(library, program, t)}
+    for title, sentence, names in SENTENCES:
+        found, wanted = numbers_in(doc, title, sentence), []
+        for name in names.split():
+            wanted += [known[name]] if isinstance(known[name], int) else known[name]
+        expect(len(found) == len(wanted), title, "-", sentence, "- the library has so many numbers:", len(wanted))
+        for (start, end), value in zip(found, wanted):
+            expect(int(text[start:end].replace(",", "")) == value, title, "-", sentence, "- the library has", value)
             compared += 1
             if places is not None:
                 places.append((start, end))

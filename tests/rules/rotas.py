@@ -78,17 +78,49 @@ def callouts_of(rota, plan):
     return sum(word_at(callouts, i) >> plan[i] & 1 for i in range(n))
 
 
+@functools.lru_cache(maxsize=None)
+def slots(rota, which):
+    """Of each item the open slots, or the usable ones, as a word. A slot is usable if one of all complete plans gives it to the item."""
+    if which == "open":
+        return rota[1]
+    return tuple(sum(1 << slot for slot in {plan[i] for plan in plans(rota)}) for i in range(rota[0]))
+
+
+def with_one(rota, which):
+    """The items that have just one such slot."""
+    return [i for i, word in enumerate(slots(rota, which)) if bin(word).count("1") == 1]
+
+
+def brittle(rota):
+    """The items that all complete plans give the same slot; without a plan none."""
+    return with_one(rota, "usable")
+
+
 # ---- rotas with a known number of plans
 
-def with_plans(wanted, one_open_slot=False):
-    """A rota with so many complete plans, and with an item of just one open slot or without, if that can be had.
+NONE, ONE_OPEN, SEVERAL_OPEN, BETWEEN = KINDS = "no brittle item", "one slot open to it", "several slots open to it", "its slot open to others too"
+
+
+def with_plans(wanted, kind=NONE):
+    """A rota with so many complete plans, and with a brittle item of this kind; for BETWEEN the number is even. With one plan alone every item is brittle, and
+    item 0 has one open slot."""
+    opens = not_brittle(wanted // 2 if kind == BETWEEN else wanted)
+    k = len(opens)
+    if kind == BETWEEN:  # 7, 6, 6 behind the others, which doubles the plans; the brittle item's slot k is open to item 0 too
+        expect(wanted % 2 == 0, "no such rota of an odd number of plans:", wanted)
+        return plain([opens[0] | 1 << k] + opens[1:] + [7 << k, 6 << k, 6 << k])
+    return plain(opens + {NONE: [], ONE_OPEN: [1 << k], SEVERAL_OPEN: [(2 << k) - 1]}[kind])  # slot k is open to no other item
+
+
+def not_brittle(wanted):
+    """The open words of a rota with so many complete plans and, where they are two or more, with two usable slots or more for each item.
 
     Item i may use slot i + 1, and of the slots up to i some. A plan is a cut of 0 .. k into runs: in a run from a to b item b has slot a, and the
     others the slot after their own. So with f(a) plans of the first a items, the last item of k adds up f(a) over its slots a. With all slots
     open f is 1, 1, 2, 4, 8, ..; the last item's slots make any sum of these.
     """
     if wanted == 1:
-        return plain([1])  # where there is one plan alone, some item has just one open slot
+        return [1]
     ways = [1, 1]
     while sum(ways) < wanted:
         ways.append(sum(ways))
@@ -98,10 +130,9 @@ def with_plans(wanted, one_open_slot=False):
             last |= 1 << a
             missing -= ways[a]
     k = len(ways)
-    opens = [(2 << (i + 1)) - 1 for i in range(k - 1)] + [last]
     if missing:
         raise Wrong("no rota of %d plans" % wanted)
-    return plain(opens + [1 << k] if one_open_slot else opens)
+    return [(2 << (i + 1)) - 1 for i in range(k - 1)] + [last]
 
 
 @functools.lru_cache(maxsize=None)
@@ -117,8 +148,3 @@ def count(rota):
                     following[taken | 1 << j] = following.get(taken | 1 << j, 0) + number_of
         ways = following
     return sum(ways.values())
-
-
-def some_forced(rota):
-    """Some item has just one open slot."""
-    return any(bin(word).count("1") == 1 for word in rota[1])

@@ -22,6 +22,7 @@ use Rattle.model.specs.Fewest.{fewest, fewestPlans}
 use Rattle.model.specs.Deficiency.{deficiency, deficientSet}
 use Rattle.model.specs.Allowed.{allowedWords}
 use Rattle.model.specs.Count.{subsetCount, subsetCounts, count}
+use Rattle.model.specs.Grade.{someForced}
 use Rattle.model.specs.PlanAnswers.{given, overCap, noPlan, firstOf, firstFrom, nextOf, nextFrom, fewestOf, fewestFrom}
 use Rattle.model.specs.PriceAnswers.{gradeBy, priceBy}
 use Rattle.model.proofs.Accepted.{tables-from}
@@ -30,9 +31,10 @@ use Rattle.model.proofs.Plans.{plans-rise, plan-from, plan-into}
 use Rattle.model.proofs.Laws.{few, range, is-plan, is-so, after-rise, after-from, after-into}
 use Rattle.model.proofs.Deficiency.{deficiency-bound, deficient-greatest, deficient-within}
 use Rattle.model.proofs.Allowed.{length-allowed, allowed-at, allowed-into, allowed-from}
+use Rattle.model.proofs.Forced.{forced-into, forced-from, same-slot, one-allowed}
 use Rattle.model.proofs.Fewest.{fewest-le, fewest-member, fewest-number, fewest-before, fewest-into, fewest-empty}
 use Rattle.maximum.proofs.Hall.{hall}
-use Rattle.demands.specs.Demand2.{IsFirst, IsNext, IsFewestPlan, IsFewest, IsShort, Tallied}
+use Rattle.demands.specs.Demand2.{IsFirst, IsNext, IsFewestPlan, IsFewest, IsShort, Tallied, Brittle}
 use Rattle.demands.specs.Tests.{Test, FirstOf, test8, test9, test10, test11}
 
 -- the members of a rising list are its head or follow it
@@ -163,6 +165,21 @@ module _ (n m : ℕ) (opens callouts : List ℕ) (ok : tableCode n m opens callo
 
   pub usable-words : length (allowedWords m opens) ≡ n
   usable-words = length-allowed m opens ∙ tables-from n m opens callouts ok .open-words
+
+  -- ---- brittle items
+
+  pub forced-is : (p : List ℕ) → IsPlan opens p → (someForced m opens ≡ true) ↔ ((i : ℕ) × Brittle opens i)
+  forced-is p P = (
+    λ e.
+        let r = forced-from m opens e in
+        let i = r .0 in
+        (i, (r .1, getD p i 0, λ k. (λ x. sym (x .2) ∙ same-slot m opens F R p P i (r .1) (r .2) (x .0) (x .1), λ q. (p, P, sym q)))),
+    λ b.
+        let i = b .0 in
+        let h = b .1 .0 in
+        let slot : (q : List ℕ) → IsPlan opens q → getD q i 0 ≡ b .1 .1 = λ q Q. b .1 .2 (getD q i 0) .0 (q, Q, refl) in
+        forced-into m opens i h (one-allowed m opens F R p P i h (λ q Q. slot q Q ∙ sym (slot p P))),
+  )
 
 -- ---- the tally
 

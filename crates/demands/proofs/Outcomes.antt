@@ -33,7 +33,7 @@ use Rattle.model.proofs.Permanent.{permanent-is-count}
 use Rattle.model.proofs.Fewest.{fewest-empty}
 use Rattle.demands.specs.Demand1.{Refused}
 use Rattle.demands.specs.Demand2.{IsFirst, IsNext, IsFewest, IsFewestPlan, IsShort, Graded}
-use Rattle.demands.proofs.Definitions.{first-is, next-is, fewest-is, is-fewest, short-is}
+use Rattle.demands.proofs.Definitions.{first-is, next-is, fewest-is, is-fewest, short-is, forced-is}
 
 -- ---- the tests before 8 give lower numbers
 
@@ -153,17 +153,23 @@ module _ (n : ℕ) (opens callouts : List ℕ) where
 -- ---- grade and price
 
 module _ (n : ℕ) (opens callouts : List ℕ) where
-  graded-is : (p : List ℕ) (l : List (List ℕ)) → plans n opens ≡ p ∷ l → Graded (permanent n opens) opens (rotaGrade n opens)
+  graded-is : tableCode n n opens callouts ≡ 0 → (p : List ℕ) (l : List (List ℕ)) → plans n opens ≡ p ∷ l
+      → Graded (permanent n opens) opens (rotaGrade n opens)
   unfolding rotaGrade count
-  graded-is p l e =
+  graded-is ok p l e =
       let P = permanent-is-count n opens in
-      record { some = omega (arith, P, ap length e); rules = ap (λ x. gradeOf x (someForced opens)) (sym P) }
+      record {
+        some = omega (arith, P, ap length e);
+        some-brittle = someForced n opens;
+        brittle = forced-is n n opens callouts ok p (first-is n n opens callouts ok p l e .plan);
+        rules = ap (λ x. gradeOf x (someForced n opens)) (sym P);
+      }
 
   some-fewest : tableCode n n opens callouts ≡ 0 → (p : List ℕ) (l : List (List ℕ)) → plans n opens ≡ p ∷ l → IsFewest opens callouts (fewest n opens callouts)
   some-fewest ok p l e = elim (fewestPlans n opens callouts) as (λ f. fewestPlans n opens callouts ≡ f → IsFewest opens callouts (fewest n opens callouts))
       [ [] ↦ λ q. absurd (nil≢cons (sym (fewest-empty n opens callouts q) ∙ e)) | x ∷ f ↦ λ q. is-fewest n n opens callouts ok x f q ] refl
 
-  counted-tables : (words : ℕ) → countCode n n opens callouts words ≡ 0 → tableCode n n opens callouts ≡ 0
+  pub counted-tables : (words : ℕ) → countCode n n opens callouts words ≡ 0 → tableCode n n opens callouts ≡ 0
   unfolding countCode
   counted-tables words z = neither-refuses (tableCode n n opens callouts) _ z .0
 
@@ -176,10 +182,11 @@ module _ (n : ℕ) (opens callouts : List ℕ) where
   pub grade-says : (words : ℕ) → GradeSays (gradeAnswer n n opens callouts words)
   unfolding gradeAnswer gradeBy count
   grade-says words =
-      outcome GradeSays gradeRefused (countCode n n opens callouts words) (λ l. gradeBy opens (length l) (rotaGrade n opens)) (plans n opens) (count-low n opens callouts words)
+      outcome GradeSays gradeRefused (countCode n n opens callouts words) (λ l. gradeBy opens (length l) (rotaGrade n opens)) (plans n opens)
+      (count-low n opens callouts words)
       (λ c h. (λ d. (refl, λ x. (refl, refl)), λ z. absurd (omega arith), λ z. absurd (omega arith)))
       (λ ok e. (λ d. (refl, λ x. absurd (x refl)), λ z. absurd (omega arith), λ z. is-short n opens callouts (counted-tables words ok) e))
-      (λ ok p l e. (λ d. absurd (d refl), λ z. (graded-is p l e, refl, refl), λ z. absurd (omega arith)))
+      (λ ok p l e. (λ d. absurd (d refl), λ z. (graded-is (counted-tables words ok) p l e, refl, refl), λ z. absurd (omega arith)))
 
   module _ (vehicles words : ℕ) where
     abbrev PriceSays : PriceAnswer → Type 0
@@ -194,8 +201,10 @@ module _ (n : ℕ) (opens callouts : List ℕ) where
     price-says =
         let tables : priceCode n n opens callouts vehicles words ≡ 0 → tableCode n n opens callouts ≡ 0 =
         λ z. counted-tables words (neither-refuses _ _ z .0) in
-        outcome PriceSays priceRefused (priceCode n n opens callouts vehicles words) (λ l. priceBy opens (length l) (monthlyPrice (rotaGrade n opens) vehicles (fewest n opens callouts)))
+        let cents = monthlyPrice (rotaGrade n opens) vehicles (fewest n opens callouts) in
+        outcome PriceSays priceRefused (priceCode n n opens callouts vehicles words) (λ l. priceBy opens (length l) cents)
         (plans n opens) (price-low n opens callouts vehicles words)
         (λ c h. (λ d. (refl, λ x. (refl, refl)), λ z. absurd (omega arith), λ z. absurd (omega arith)))
         (λ ok e. (λ d. (refl, λ x. absurd (x refl)), λ z. absurd (omega arith), λ z. is-short n opens callouts (tables ok) e))
-        (λ ok p l e. (λ d. absurd (d refl), λ z. ((_, _, graded-is p l e, some-fewest (tables ok) p l e, refl), refl, refl), λ z. absurd (omega arith)))
+        (λ ok p l e.
+        (λ d. absurd (d refl), λ z. ((_, _, graded-is (tables ok) p l e, some-fewest (tables ok) p l e, refl), refl, refl), λ z. absurd (omega arith)))

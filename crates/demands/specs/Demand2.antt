@@ -5,6 +5,7 @@
 -- rota that gives 0 did its work. Document 01's definitions are the rules of docs/RULES.md. Assumes nothing.
 use mathlib.Core.Path.{_≡_}
 use mathlib.Core.Logic.{_⊎_, _↔_}
+use mathlib.Core.Bool.{Bool, true}
 use mathlib.Core.List.{List, _++_}
 use Prim.Native.Nat.{ℕ, _+_, _*_, _^_, _≤_, _<_}
 use lib.ListN.{length, getD, take, drop}
@@ -14,7 +15,7 @@ use Rattle.model.specs.Plans.{IsPlan}
 use Rattle.model.specs.Fewest.{calloutsOf}
 use Rattle.model.specs.Deficiency.{shortBy}
 use Rattle.model.specs.Count.{permanent, subsetCount}
-use Rattle.model.specs.Grade.{someForced, gradeOf, rate}
+use Rattle.model.specs.Grade.{gradeOf, rate}
 use Rattle.model.specs.File.{opensIn, calloutsIn}
 use Rattle.demands.specs.Calls.{EachFirst, EachNext, EachFewest, EachList, EachUsable, EachCount, EachGrade, EachPrice, EachRead, EachWrite}
 use Rattle.demands.specs.Calls.{EachFileFirst, EachFileNext, EachFileFewest}
@@ -57,10 +58,16 @@ pub record Tallied (n : ℕ) (opens old new : List ℕ) : Type 0 where
   pub sets : (set : ℕ) → set < 2 ^ n → getD new set 0 ≡ subsetCount n opens set
   pub further : drop (2 ^ n) new ≡ drop (2 ^ n) old
 
--- the grade of a rota with P plans: "The rules are tried from the top; the first that fits gives the grade"
+-- item i is brittle: just one slot is usable to it
+abbrev pub Brittle : List ℕ → ℕ → Type 0
+Brittle opens i = (i < length opens) × (j : ℕ) × ((k : ℕ) → ((p : List ℕ) × IsPlan opens p × (getD p i 0 ≡ k)) ↔ (k ≡ j))
+
+-- the grade of a rota with P plans: "The rules are tried from the top; the first that fits gives the grade". Rule 3 fits if some item is brittle.
 pub record Graded (P : ℕ) (opens : List ℕ) (grade : ℕ) : Type 0 where
   pub some : 1 ≤ P
-  pub rules : grade ≡ gradeOf P (someForced opens)
+  pub some-brittle : Bool
+  pub brittle : (some-brittle ≡ true) ↔ ((i : ℕ) × Brittle opens i)
+  pub rules : grade ≡ gradeOf P some-brittle
 
 pub record Demand2 : Type 1 where
   -- "the first, next and fewest-callout plan"

@@ -9,6 +9,7 @@ pub mod Permanent
 pub mod Deficiency
 pub mod CellPlans
 pub mod Allowed
+pub mod Forced
 pub mod Grades
 pub mod Fewest
 pub mod Laws

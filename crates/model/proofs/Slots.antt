@@ -16,6 +16,7 @@ use Rattle.model.specs.Plans.{plans, blank, isPlan, plansAfter}
 use Rattle.model.specs.Fewest.{calloutsOf, fewest, fewestPlans}
 use Rattle.model.specs.CellPlans.{holds, cellPlan, cellPlans}
 use Rattle.model.specs.Allowed.{allowedWord, allowedWords}
+use Rattle.model.specs.Grade.{someSingle, someForced}
 use Rattle.model.specs.PlanAnswers.{refused, firstOf, firstFrom, nextOf, nextFrom, fewestOf, fewestFrom}
 use Rattle.model.proofs.Order.{rising-same}
 use Rattle.model.proofs.Plans.{plans-rise, plan-from, plan-into}
@@ -66,3 +67,7 @@ module _ (n m : ℕ) (opens callouts : List ℕ) (ok : tableCode n m opens callo
       ext-getD 0 (allowedWords 64 opens) (allowedWords m opens) (length-allowed 64 opens ∙ sym (length-allowed m opens)) (λ i l.
       let h : i < length opens = omega (arith, length-allowed 64 opens) in
       allowed-at 64 opens i h ∙ allowed-word-wide i h ∙ sym (allowed-at m opens i h))
+
+  pub forced-wide : someForced 64 opens ≡ someForced m opens
+  unfolding someForced
+  forced-wide = ap someSingle allowed-wide

@@ -1,4 +1,5 @@
--- Worked rotas of docs/RULES.md, those that document 01 marks P, and T's file and listing: tables of equations that antt computes. Assumes nothing.
+-- Worked rotas of docs/RULES.md, those that document 01 marks P (the grade of 7, 6, 6 is change request 103's), and T's file and listing: tables of
+-- equations that antt computes. Assumes nothing.
 use mathlib.Core.Path.{_≡_, refl}
 use mathlib.Core.List.{List, [], _∷_, _++_}
 use Prim.Native.Nat.{ℕ, _+_, _*_}
@@ -42,7 +43,12 @@ pub record Rows : Type 0 where
   pub T-cents : _≡_ {A = ℕ} (285 * 100 + 4500) 33000
   pub two-plans : plans 3 two-opens ≡ slots 0 1 2 ∷ slots 0 2 1 ∷ []
   pub two-usable : allowedWords 3 two-opens ≡ 1 ∷ 6 ∷ 6 ∷ []
-  pub two-grade : gradeAnswer 3 3 two-opens (none 3) 8 ≡ record { code = 0; grade = 3; shortage = 0; items = 0 }
+  -- item 0 is brittle, though three slots are open to it
+  pub two-grade : gradeAnswer 3 3 two-opens (none 3) 8 ≡ record { code = 0; grade = 2; shortage = 0; items = 0 }
+  -- 24 plans: no item is brittle; a further item with one open slot, and with five
+  pub four-grade : gradeAnswer 4 4 (15 ∷ 15 ∷ 15 ∷ 15 ∷ []) (none 4) 16 ≡ record { code = 0; grade = 4; shortage = 0; items = 0 }
+  pub five-grade : gradeAnswer 5 5 (16 ∷ 15 ∷ 15 ∷ 15 ∷ 15 ∷ []) (none 5) 32 ≡ record { code = 0; grade = 2; shortage = 0; items = 0 }
+  pub five-open-grade : gradeAnswer 5 5 (31 ∷ 15 ∷ 15 ∷ 15 ∷ 15 ∷ []) (none 5) 32 ≡ record { code = 0; grade = 2; shortage = 0; items = 0 }
   pub short-four : firstAnswer 4 4 (1 ∷ 1 ∷ 2 ∷ 14 ∷ []) (none 4) ≡ short 1 3
   pub short-two : firstAnswer 2 2 (0 ∷ 3 ∷ []) (none 2) ≡ short 1 1
   pub one-plan : plans 1 (1 ∷ []) ≡ (0 ∷ replicate 63 0) ∷ []

@@ -1,5 +1,5 @@
 -- Count and grade of n items and m slots, from what their tests found and from the search for a plan. Assumes nothing.
-use mathlib.Core.Path.{_≡_, refl, sym, ap, _∙_, subst}
+use mathlib.Core.Path.{_≡_, refl, sym, ap, ap₂, _∙_, subst}
 use mathlib.Core.Logic.{_≢_}
 use mathlib.Core.List.{List, [], _∷_}
 use Prim.Native.Nat.{ℕ, zero, suc, _^_, _≤_, _<_}
@@ -16,7 +16,7 @@ use Rattle.model.specs.PlanAnswers.{firstFrom, firstOf, noPlan}
 use Rattle.model.specs.CountAnswers.{countRefused, countCode, countAnswer, countTally}
 use Rattle.model.specs.PriceAnswers.{gradeBy, gradeRefused, gradeAnswer, gradeTally}
 use Rattle.model.proofs.Refusals.{neither-refuses, size-passed, tally-passed, refused-answer, accepted-answer, nothing-written}
-use Rattle.model.proofs.Slots.{first-wide}
+use Rattle.model.proofs.Slots.{first-wide, forced-wide}
 use Rattle.rota.proofs.TableCalls.{Passed}
 
 -- what the tests of a count leave
@@ -93,18 +93,20 @@ module _ {n m : ℕ} {opens callouts tally : List ℕ} (able : Countable n m ope
   unfolding noPlan gradeBy gradeTally
   grade-none d =
       let short : PlanAnswer → GradeAnswer = λ x. record { code = x .code; grade = 0; shortage = x .shortage; items = x .items } in
-      kept (λ (x : GradeAnswer). x .code) _ _ tally d (ap short (says .none d .0) ∙ sym (ap (λ k. gradeBy opens k (rotaGrade m opens)) (says .none d .1)) ∙ graded)
+      let by : ℕ → GradeAnswer = λ k. gradeBy opens k (rotaGrade m opens) in
+      kept (λ (x : GradeAnswer). x .code) _ _ tally d (ap short (says .none d .0) ∙ sym (ap by (says .none d .1)) ∙ graded)
 
   module _ (y : a .code ≡ 0) {number : ℕ} (q : number ≡ count m opens) where
     pub some-plan : 0 < number
     some-plan = subst (0 <_) (sym q) (says .some y)
 
-    pub grade-done : {g : ℕ} → g ≡ gradeOf number (someForced opens) → {u : List ℕ} → u ≡ written 0 (subsetCounts m opens) tally
+    pub grade-done : {g : ℕ} → g ≡ gradeOf number (someForced 64 opens) → {u : List ℕ} → u ≡ written 0 (subsetCounts m opens) tally
         → Grades n m opens callouts tally (record { code = 0; grade = g; shortage = 0; items = 0 }) u
     unfolding gradeTally gradeBy rotaGrade
     grade-done {g} eg f =
+        let forced = forced-wide n m opens callouts (able .passed .code) (able .passed .slots) in
         filled (λ (x : GradeAnswer). x .code) _ _ tally refl f
-        (go (count m opens) (says .some y) ∙ ap (gradeBy opens (count m opens)) (eg ∙ ap (λ k. gradeOf k (someForced opens)) q) ∙ graded)
+        (go (count m opens) (says .some y) ∙ ap (gradeBy opens (count m opens)) (eg ∙ ap₂ gradeOf q forced) ∙ graded)
       where
         go : (k : ℕ) → 0 < k → record { code = 0; grade = g; shortage = 0; items = 0 } ≡ gradeBy opens k g
         go zero h = absurd (omega arith)

@@ -111,6 +111,21 @@ empty k w h f = ext k w 0 h (pow-pos k) (λ j l. f j l ∙ sym (bit-empty j))
 pub ones-none : (k w : ℕ) → w < 2 ^ k → ones w ≡ 0 → w ≡ 0
 ones-none k w h e = empty k w h (λ j l. ⊎-elim (λ z. z) (λ o. absurd (omega (arith, ones-without w j o))) (bit-cases w j))
 
+-- a word of one slot: no two are in it, and back
+pub one-slot : (w j i : ℕ) → ones w ≡ 1 → bit w j ≡ 1 → bit w i ≡ 1 → i ≡ j
+one-slot w j i e a =
+    at-slot (λ i. bit w i ≡ 1 → i ≡ j) j (λ b. refl)
+    (λ i d b. absurd (omega (arith, ones-without w j a, ones-without (without w j) i (bit-without-other w j i d ∙ b)))) i
+
+pub slot-alone : (k w j : ℕ) → w < 2 ^ k → bit w j ≡ 1 → ((i : ℕ) → bit w i ≡ 1 → i ≡ j) → ones w ≡ 1
+unfolding ones
+slot-alone k w j h a f =
+    let none : without w j ≡ 0 =
+    empty k (without w j) (omega (arith, without-le w j)) (λ i l.
+    at-slot (λ i. bit (without w j) i ≡ 0) j (bit-without w j)
+    (λ i d. bit-without-other w j i d ∙ ⊎-elim (λ z. z) (λ b. absurd (d (f i b))) (bit-cases w i)) i) in
+    ones-without w j a ∙ ap (λ x. suc (ones x)) none
+
 pub ones-subset : (k a b : ℕ) → a < 2 ^ k → b < 2 ^ k → ((j : ℕ) → j < k → bit a j ≤ bit b j) → ones a ≤ ones b
 ones-subset k a b ha hb f = omega (arith, ones-sum k a ha, ones-sum k b hb, sum-le (bit a) (bit b) k f)
 

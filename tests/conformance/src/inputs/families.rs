@@ -144,7 +144,7 @@ fn cells(n: usize, times: usize, of: usize, random: &mut Random) -> u64 {
 }
 
 /// Items and slots renamed.
-fn scrambled(opens: Vec<u64>, random: &mut Random) -> Vec<u64> {
+pub fn scrambled(opens: Vec<u64>, random: &mut Random) -> Vec<u64> {
     let n = opens.len();
     let (items, slots) = (random.permutation(n), random.permutation(n));
     let renamed = |word: u64| word_of((0..n).filter(|&slot| word >> slot & 1 == 1).map(|slot| slots[slot]));

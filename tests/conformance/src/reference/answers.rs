@@ -198,7 +198,7 @@ impl<'a> Input<'a> {
 
     pub fn grade_answer(&self, code: u32) -> GradeAnswer {
         let (items, shortage) = self.short(code);
-        let grade = if code == 0 { pricing::grade(&self.known.tables, self.known.count()) } else { 0 };
+        let grade = if code == 0 { pricing::grade(self.known.usable(), self.known.count()) } else { 0 };
         GradeAnswer { code, grade, shortage, items }
     }
 

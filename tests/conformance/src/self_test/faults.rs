@@ -1,7 +1,7 @@
 //! Faults of the stand-in: a changed reply, an exchanged order of tests, a buffer written where it should be kept.
 
 use super::mock::Reply;
-use super::{systematic, wrong, wrong_cells, wrong_files, wrong_sheets};
+use super::{systematic, wrong, wrong_cells, wrong_files, wrong_grades, wrong_sheets};
 use crate::reference::answers::{Call, Input};
 use std::sync::Arc;
 
@@ -107,11 +107,21 @@ impl Fault {
     }
 }
 
+/// A fault of a call's successes.
+pub fn success(call: Call, name: &str, change: impl Fn(&Input, &mut Reply) + Send + Sync + 'static) -> Fault {
+    Fault::of(call, name, move |input, reply| {
+        if reply.code == 0 {
+            change(input, reply);
+        }
+    })
+}
+
 pub fn all() -> Vec<Fault> {
     let mut faults = systematic::faults();
     faults.extend(wrong::faults());
     faults.extend(wrong_cells::faults());
     faults.extend(wrong_sheets::faults());
+    faults.extend(wrong_grades::faults());
     faults.extend(wrong_files::faults());
     faults
 }

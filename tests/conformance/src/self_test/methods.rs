@@ -31,6 +31,7 @@ macro_rules! same {
         1
     }};
 }
+pub(super) use same;
 
 /// Every method against the definitions.
 fn with_definitions(rota: &Tables) -> u64 {
@@ -185,7 +186,9 @@ fn worked_rows() -> u64 {
         compared += same!(two.tables, "plans", (two.first(), two.last()), (Some(plans[0]), Some(plans[1])));
         compared += same!(two.tables, "usable", two.usable(), [1, 6, 6]);
         compared += same!(two.tables, "cells", (two.cell_plan((0, 1)), two.cell_plan((1, 2))), (None, Some(plans[1])));
-        compared += same!(two.tables, "grade", Input::new(Call::Grade, &two).grade_answer(0).grade, 3);
+        let priced = Input { vehicles: 100, tally_words: 8, ..Input::new(Call::MonthlyPrice, &two) };
+        compared += same!(two.tables, "grade", priced.grade_answer(0).grade, 2);
+        compared += same!(two.tables, "price", priced.price_answer(priced.refusal()).cents, 35_000);
         let four = by(Tables::open(&[1, 1, 2, 14]));
         compared += same!(four.tables, "shortage", (four.first(), four.shortage()), (None, (3, 1)));
         let none = by(Tables::open(&[0, 3]));

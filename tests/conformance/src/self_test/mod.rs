@@ -1,5 +1,6 @@
 //! Shows that the program can fail: its methods are compared with each other, and wrong answers of a stand-in must be found.
 
+mod brittle;
 mod faults;
 mod methods;
 mod mock;
@@ -8,6 +9,7 @@ mod systematic;
 mod wrong;
 mod wrong_cells;
 mod wrong_files;
+mod wrong_grades;
 mod wrong_sheets;
 
 use crate::parallel::{processors, spread};
@@ -18,13 +20,17 @@ use std::process::ExitCode;
 
 const SEED: u64 = 1;
 
-/// The subjects that find wrong sheets; without a fault they find nothing.
-const FAULTLESS: [&str; 3] = ["refusals", "sheets", "apart"];
+/// The subjects that find wrong sheets, grades and prices; without a fault they find nothing.
+const FAULTLESS: [&str; 5] = ["refusals", "sheets", "apart", "prices", "brittle"];
 
 pub fn run() -> ExitCode {
-    let compared = methods::run();
+    let compared = methods::run() + brittle::run();
     println!("self-test: {compared} comparisons between methods agree");
-    if let Some(subject) = FAULTLESS.into_iter().find(|subject| find(&Fault::none().found_by(subject)).is_ok()) {
+    let faultless = |turn: u64| {
+        let subject = FAULTLESS[turn as usize];
+        find(&Fault::none().found_by(subject)).map_or(Ok(()), |()| Err(subject))
+    };
+    if let Err(subject) = spread(FAULTLESS.len() as u64, processors(), faultless) {
         println!("self-test: found without a fault: {subject}");
         return ExitCode::FAILURE;
     }

@@ -1,124 +1,15 @@
-//! Wrong libraries that come near: grades, prices, files, tables of wrong lengths.
+//! Wrong libraries that come near: files, tables of wrong lengths.
 
-use super::faults::Fault;
+use super::faults::{success, Fault};
 use super::mock::Reply;
-use crate::reference::answers::{Call, Input};
+use crate::reference::answers::Call;
 use crate::reference::rota_file::{check_of, misplaced, tables_in, Part, BLOCK, CHECK, PARTS};
-use crate::reference::{layers, pricing};
-use crate::rota::has;
 use Call::*;
 
 pub fn faults() -> Vec<Fault> {
-    let graded = grade_faults().into_iter().chain(price_faults()).map(|fault| fault.found_by("prices"));
     let damaged = layout_faults().into_iter().chain(block_faults()).map(|fault| fault.found_by("damage"));
     let written = read_and_write_faults().into_iter().map(|fault| fault.found_by("files"));
-    graded.chain(damaged).chain(written).chain(plan_buffer_faults()).chain(table_faults()).collect()
-}
-
-/// A fault of a call's successes.
-fn success(call: Call, name: &str, change: impl Fn(&Input, &mut Reply) + Send + Sync + 'static) -> Fault {
-    Fault::of(call, name, move |input, reply| {
-        if reply.code == 0 {
-            change(input, reply);
-        }
-    })
-}
-
-fn just_one(input: &Input) -> bool {
-    input.known.tables.opens.iter().any(|open| open.count_ones() == 1)
-}
-
-fn grade_faults() -> Vec<Fault> {
-    let mut list = vec![
-        success(Grade, "rule 3 before rule 2", |input, reply| {
-            reply.number = if input.known.count() > 1 && just_one(input) { 2 } else { reply.number };
-        }),
-        success(Grade, "rule 3 before rule 1", |input, reply| {
-            reply.number = if input.known.count() == 1 && just_one(input) { 2 } else { reply.number };
-        }),
-        success(Grade, "rule 3 left out", |input, reply| {
-            reply.number = if reply.number == 2 { 3 + u64::from(input.known.count() > 23) } else { reply.number };
-        }),
-        success(Grade, "slots with one item", |input, reply| {
-            let opens = &input.known.tables.opens;
-            let single = |slot: usize| opens.iter().filter(|&&open| has(open, slot)).count() == 1;
-            reply.number = match reply.number {
-                1 | 5 => reply.number,
-                _ if (0..input.known.n()).any(single) => 2,
-                _ => 3 + u64::from(input.known.count() > 23),
-            };
-        }),
-        success(Grade, "the tally kept", |_, reply| reply.words.clear()),
-        Fault::of(Grade, "the tally filled with 9", |input, reply| {
-            if reply.code == 9 {
-                reply.words = layers::tally(&input.known.tables);
-            }
-        }),
-    ];
-    for (count, taken) in [(1, 2), (2, 1), (23, 24), (24, 23), (999, 1_000), (1_000, 999)] {
-        list.push(success(Grade, &format!("{count} plans graded as {taken}"), move |input, reply| {
-            if input.known.count() == count {
-                reply.number = pricing::grade(&input.known.tables, taken).into();
-            }
-        }));
-    }
-    list
-}
-
-fn grade_of(input: &Input) -> u32 {
-    pricing::grade(&input.known.tables, input.known.count())
-}
-
-fn price_faults() -> Vec<Fault> {
-    let mut list = vec![
-        success(MonthlyPrice, "the first plan's callouts", |input, reply| {
-            let callouts = input.known.first().map_or(0, |plan| input.known.tables.callouts_of(&plan));
-            reply.number = pricing::price(grade_of(input), input.vehicles, callouts);
-        }),
-        success(MonthlyPrice, "no callouts", |input, reply| {
-            reply.number = pricing::price(grade_of(input), input.vehicles, 0);
-        }),
-        success(MonthlyPrice, "10,000 vehicles refused", |input, reply| {
-            if input.vehicles == 10_000 {
-                *reply = Reply::right(input, 7);
-            }
-        }),
-        Fault::of(MonthlyPrice, "vehicles cut to 32 bits", |input, reply| {
-            if reply.code == 7 && input.vehicles == (1 << 32) + 1 {
-                reply.code = 0;
-            }
-        }),
-    ];
-    for vehicles in [0, 10_001] {
-        list.push(Fault::of(MonthlyPrice, &format!("{vehicles} vehicles accepted"), move |input, reply| {
-            if reply.code == 7 && input.vehicles == vehicles {
-                reply.code = 0;
-            }
-        }));
-    }
-    for (vehicles, taken) in [(49, 50), (50, 49), (499, 500), (500, 499)] {
-        list.push(success(
-            MonthlyPrice,
-            &format!("{vehicles} vehicles at the rate of {taken}"),
-            move |input, reply| {
-                if input.vehicles == vehicles {
-                    let rate = |fleet: u64| pricing::price(grade_of(input), fleet, 0) / fleet;
-                    reply.number = reply.number + rate(taken) * vehicles - rate(vehicles) * vehicles;
-                }
-            },
-        ));
-    }
-    for (row, fleets) in pricing::RATES.iter().enumerate() {
-        for &rate in fleets {
-            list.push(success(MonthlyPrice, &format!("rate {rate} a cent off"), move |input, reply| {
-                let grade = grade_of(input);
-                if grade as usize == row + 1 && pricing::price(grade, input.vehicles, 0) == rate * input.vehicles {
-                    reply.number += input.vehicles;
-                }
-            }));
-        }
-    }
-    list
+    damaged.chain(written).chain(plan_buffer_faults()).chain(table_faults()).collect()
 }
 
 /// A part of the layout that is not tested: files with this fault alone get what follows 14.

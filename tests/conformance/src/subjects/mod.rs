@@ -2,6 +2,7 @@
 
 mod apart;
 mod battery;
+mod brittle;
 mod cells;
 mod counts;
 mod damage;
@@ -19,7 +20,7 @@ use crate::session::{Outcome, Session};
 
 type Subject = fn(&mut Session, &mut Random) -> Outcome;
 
-const SUBJECTS: [(&str, Subject); 12] = [
+const SUBJECTS: [(&str, Subject); 13] = [
     ("worked", worked::run),
     ("refusals", refusals::run),
     ("small", small::run),
@@ -28,6 +29,7 @@ const SUBJECTS: [(&str, Subject); 12] = [
     ("apart", apart::run),
     ("listings", listings::run),
     ("prices", prices::run),
+    ("brittle", brittle::run),
     ("files", files::run),
     ("damage", damage::run),
     ("sizes", sizes::run),

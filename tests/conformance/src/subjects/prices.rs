@@ -8,7 +8,7 @@ use crate::rota::{low, Tables};
 use crate::session::{Outcome, Session};
 
 /// Counts at the bounds of the grades.
-const COUNTS: [u64; 14] = [1, 2, 3, 22, 23, 24, 25, 26, 998, 999, 1_000, 1_001, 1_002, 5_000];
+pub const COUNTS: [u64; 14] = [1, 2, 3, 22, 23, 24, 25, 26, 998, 999, 1_000, 1_001, 1_002, 5_000];
 
 const ROUNDS: usize = 6;
 
@@ -42,7 +42,8 @@ fn without_plan(opens: &[u64], random: &mut Random) -> Vec<u64> {
     short
 }
 
-fn graded(session: &mut Session, opens: &[u64], random: &mut Random) -> Outcome {
+/// Grade and price, with no callouts, with nothing but callouts, and with some.
+pub fn graded(session: &mut Session, opens: &[u64], random: &mut Random) -> Outcome {
     let n = opens.len();
     for kind in 0..3 {
         let callouts = match kind {
