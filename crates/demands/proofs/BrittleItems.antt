@@ -8,7 +8,6 @@ use native.Mathlib.Nat.{mul-le-mul-right}
 use native.Mathlib.Decide.{decLt}
 use native.Mathlib.Omega.{arith}
 use lib.Count.{ones}
-use lib.Dec.{ltb}
 use lib.ListN.{length, getD}
 use Rattle.words.proofs.SetLaws.{one-slot}
 use Rattle.model.specs.declared.GradeAnswer.{GradeAnswer}
@@ -19,14 +18,14 @@ use Rattle.model.specs.Plans.{plans, IsPlan}
 use Rattle.model.specs.Fewest.{fewest}
 use Rattle.model.specs.Allowed.{allowedWord}
 use Rattle.model.specs.Count.{count, subsetCounts}
-use Rattle.model.specs.Grade.{someForced, gradeOf, rotaGrade, rates, fleetColumn, rate, monthlyPrice}
+use Rattle.model.specs.Grade.{someForced, gradeOf, rotaGrade, rates, rate, monthlyPrice}
 use Rattle.model.specs.CountAnswers.{countCode}
 use Rattle.model.specs.PriceAnswers.{gradeRefused, gradeBy, gradeAnswer, gradeTally, priceRefused, priceBy, priceCode, priceAnswer, priceTally}
-use Rattle.model.proofs.Members.{is-true, is-false, of-cond, mem-at}
+use Rattle.model.proofs.Members.{is-true, is-false, mem-at}
 use Rattle.model.proofs.Refusals.{neither-refuses, fleet-passed}
 use Rattle.model.proofs.Plans.{plan-from}
 use Rattle.model.proofs.Laws.{few, range}
-use Rattle.model.proofs.Grades.{grade-one, grade-many, grade-forced, grade-few, grade-more}
+use Rattle.model.proofs.Grades.{grade-one, grade-many, grade-forced, grade-few, grade-more, by-column}
 use Rattle.model.proofs.Forced.{single-into, single-from, forced-into, forced-from, one-allowed}
 use Rattle.demands.specs.BrittleItems.{someOneOpen, gradeBefore, gradeAnswerBefore, priceAnswerBefore, Regraded, ThreeOrFour, BrittleItems}
 use Rattle.demands.proofs.Contracts.{grade-each, price-each}
@@ -59,10 +58,6 @@ not-2 number some e =
     ]
 
 -- grades 3 and 4 cost less than grade 2
-by-column : (P : ℕ → Type 0) (vehicles : ℕ) → P 0 → P 1 → P 2 → P (fleetColumn vehicles)
-unfolding fleetColumn
-by-column P vehicles a b c = of-cond P (ltb vehicles 50) (λ _. a) (λ _. of-cond P (ltb vehicles 500) (λ _. b) (λ _. c))
-
 rate-lt : (grade vehicles : ℕ) → ThreeOrFour grade → rate grade vehicles < rate 2 vehicles
 unfolding rate rates
 rate-lt grade vehicles g =
