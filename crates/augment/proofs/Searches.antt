@@ -9,24 +9,11 @@ use lib.Count.{ones, ones-le}
 use lib.ListN.{length, getD, set}
 use Rattle.words.specs.Word.{bit, with, without, minus, lowest}
 use Rattle.words.proofs.Bits.{bit-lt, bit-empty, bit-and, bit-or, bit-minus, bit-with, bit-with-other}
-use Rattle.words.proofs.SetLaws.{bit-with-le, minus-le, ones-proper, lowest-lt, bit-lowest}
+use Rattle.words.proofs.SetLaws.{bit-with-le, minus-le, ones-proper, lowest-lt, bit-lowest, common}
 use Rattle.augment.specs.Table.{own, cell, Table, Matched, Owners, span}
 use Rattle.augment.specs.Search.{Movable, Mover, Relocatable, Relocated, Vacatable, Vacated, Certificate, Assignable, Assigned, Barred}
 use Rattle.augment.proofs.Spans.{span-into, span-from, span-lt}
 use Rattle.augment.proofs.Moves.{same-or, bit-le, holder-matched, release, take}
-
--- the lowest slot of two words' common slots
-pub record Common (a b h : ℕ) : Type 0 where
-  pub below : h < 64
-  pub left : bit a h ≡ 1
-  pub right : bit b h ≡ 1
-
-pub common : (a b h : ℕ) → a < 2 ^ 64 → bitAnd a b ≢ 0 → h ≡ lowest (bitAnd a b) → Common a b h
-common a b h l z e =
-    let fits : bitAnd a b < 2 ^ 64 = omega (arith, and-le-l a b) in
-    let one : bit (bitAnd a b) h ≡ 1 = ap (bit (bitAnd a b)) e ∙ bit-lowest (bitAnd a b) z fits in
-    let both = bit-and a b h in
-    record { below = omega (arith, lowest-lt (bitAnd a b) z fits); left = omega (arith, bit-lt a h); right = omega (arith, bit-lt b h) }
 
 apart : (a b k : ℕ) → bitAnd a b ≡ 0 → bit a k ≡ 1 → bit b k ≡ 0
 apart a b k z e = omega (arith, bit-and a b k, ap (λ x. bit x k) z, bit-empty k)
@@ -112,7 +99,7 @@ module _ {w o p : List ℕ} {f set′ seen : ℕ} (Z : Vacatable w o p f set′ 
 
     pub at-hand : {h : ℕ} → bitAnd reach f ≢ 0 → h ≡ lowest (bitAnd reach f) → Relocatable w o p f set′ h
     at-hand {h} z e =
-        let c = common reach f h reach-lt z e in
+        let c = common (λ k l. bit-and reach f k) (omega (arith, reach-lt, and-le-l reach f)) z e in
         record { table = Z .table; held = held-set; below = c .below; hole = c .right; reached = rw (← er) (c .left) }
 
     module _ (fits : seen < 2 ^ 64) {layer : ℕ} (el : layer ≡ minus reach seen) (none : bitAnd reach f ≡ 0) where
@@ -221,7 +208,7 @@ module _ {w o p : List ℕ} {f x cand fixed : ℕ} (A : Assignable w o p f x can
   -- a slot of cand is free
   pub at-once : {h : ℕ} → cand < 2 ^ 64 → bitAnd cand f ≢ 0 → h ≡ lowest (bitAnd cand f) → Assigned w o p f x cand fixed (set o h x) (set p x h) (without f h) h
   at-once {h} l z e =
-      let c = common cand f h l z e in
+      let c = common (λ k g. bit-and cand f k) (omega (arith, and-le-l cand f)) z e in
       let free : Vacated w o p f cand fixed o p f h = search (A .held) in
       assigned free
 

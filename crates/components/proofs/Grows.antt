@@ -12,12 +12,11 @@ use Rattle.words.specs.Word.{bit, low, minus, lowest}
 use Rattle.words.specs.Sum.{sum}
 use Rattle.words.proofs.Bits.{bit-lt, bit-empty, bit-and, bit-or, bit-minus, bit-single, bit-single-other, bit-low, at-slot}
 use Rattle.words.proofs.Sums.{sum-lt}
-use Rattle.words.proofs.SetLaws.{minus-le, lowest-lt, bit-lowest}
+use Rattle.words.proofs.SetLaws.{minus-le, lowest-lt, bit-lowest, common}
 use Rattle.model.specs.Allowed.{allowedWord}
 use Rattle.augment.specs.Table.{own, at, cell}
 use Rattle.augment.specs.Search.{Within}
 use Rattle.augment.proofs.Moves.{same-or}
-use Rattle.augment.proofs.Searches.{common}
 use Rattle.components.specs.Component.{Saturating, AllowedTable, Growing, Grown}
 
 -- what falls: the number of slots that are neither finished nor on the path nor in the set
@@ -102,7 +101,7 @@ module _ {w o : List ℕ} {f rest path set out : ℕ} {a : List ℕ} {left all r
   pub grow-back : bitAnd next path ≢ 0 → Grown w o f rest path set out a left all reach
   grow-back z =
       let j = lowest (bitAnd next path) in
-      let c = common next path j next-lt z refl in
+      let c = common (λ k h. bit-and next path k) (omega (arith, next-lt, and-le-l next path)) z refl in
       T .whole (record {
         growing = P;
         less = λ k h. omega arith;

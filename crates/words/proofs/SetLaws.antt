@@ -268,3 +268,23 @@ module _ (w : ℕ) (z : w ≢ 0) (h : w < 2 ^ 64) where
         | yes g ↦ omega (arith, below-lowest i g, bit-without-other w (lowest w) i d)
         | no g ↦ omega (arith, lowest-found .above i (omega arith), bit-without-other w (lowest w) i d)
       ]) i)
+
+-- h is the lowest slot that is in both words
+pub record Common (a b h : ℕ) : Type 0 where
+  pub below : h < 64
+  pub left : bit a h ≡ 1
+  pub right : bit b h ≡ 1
+  pub least : (k : ℕ) → k < h → bit a k ≡ 1 → bit b k ≡ 0
+
+-- r has the slots that are in both
+pub common : {r a b h : ℕ} → ((k : ℕ) → k < 64 → bit r k ≡ min (bit a k) (bit b k)) → r < 2 ^ 64 → r ≢ 0 → h ≡ lowest r → Common a b h
+common {r} {a} {b} both l z e =
+    let below = lowest-lt r z l in
+    let here = both (lowest r) below in
+    let one = bit-lowest r z l in
+    rw e (record {
+      below = below;
+      left = omega (arith, bit-lt a (lowest r));
+      right = omega (arith, bit-lt b (lowest r));
+      least = λ k g c. omega (arith, below-lowest r z l k g, both k (omega arith), bit-lt b k);
+    })
