@@ -44,10 +44,10 @@
 #include <stddef.h>
 #include <stdint.h>
 
-/* The version, in numbers and as a text made of them: "2.0.0". */
+/* The version, in numbers and as a text made of them: "2.0.1". */
 #define ROTA_VERSION_MAJOR 2
 #define ROTA_VERSION_MINOR 0
-#define ROTA_VERSION_PATCH 0
+#define ROTA_VERSION_PATCH 1
 #define ROTA_VERSION ROTA_VERSION_OF(ROTA_VERSION_MAJOR, ROTA_VERSION_MINOR, ROTA_VERSION_PATCH)
 #define ROTA_VERSION_OF(major, minor, patch) ROTA_VERSION_TEXT(major, minor, patch)
 #define ROTA_VERSION_TEXT(major, minor, patch) #major "." #minor "." #patch

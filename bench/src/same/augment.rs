@@ -15,6 +15,24 @@ pub fn holder(owner: &[u8; 64], k: usize) -> usize {
     words::wide(owner[k])
 }
 
+// Of the slots of a word, those that no item holds. The tables are there for the promise: the code needs none of them.
+pub fn unheld(_opens: &[u64], _owner: &[u8; 64], _slot: &[u8; 64], free: u64, word: u64) -> u64 {
+    word & free
+}
+
+// The slots both open and free, for item x: bit j is set exactly if x may use slot j and no item holds it. Whoever serves an item asks
+// for them once, before any slot is tried.
+pub fn vacant(opens: &[u64], owner: &[u8; 64], slot: &[u8; 64], free: u64, x: usize) -> u64 {
+    unheld(opens, owner, slot, free, opens[x])
+}
+
+// Item x, which holds no slot, gets the free slot h, which is open to it. The free slots afterwards.
+pub fn take(_opens: &[u64], owner: &mut [u8; 64], slot: &mut [u8; 64], free: u64, x: usize, h: usize) -> u64 {
+    owner[h] = x as u8;
+    slot[x] = h as u8;
+    words::without(free, h)
+}
+
 // The slots open to the holders of the slots of `set`.
 pub fn span(opens: &[u64], owner: &[u8; 64], set: u64) -> u64 {
     let mut all: u64 = 0;
@@ -45,16 +63,14 @@ pub fn mover(opens: &[u64], owner: &[u8; 64], set: u64, h: usize) -> usize {
 pub fn relocate(opens: &[u64], owner: &mut [u8; 64], slot: &mut [u8; 64], free: u64, set: u64, h: usize) -> Found {
     let k = mover(opens, owner, set, h);
     let y = holder(owner, k);
-    owner[h] = y as u8;
-    slot[y] = h as u8;
-    Found { at: k, word: words::without(words::with(free, k), h) }
+    Found { at: k, word: take(opens, owner, slot, words::with(free, k), y, h) }
 }
 
 // One slot of `set` is made free: holders move along a shortest chain that ends in a free slot. The slots of `seen` but that one
 // keep their holders.
 pub fn vacate(opens: &[u64], owner: &mut [u8; 64], slot: &mut [u8; 64], free: u64, set: u64, seen: u64) -> Found {
     let reach = span(opens, owner, set);
-    let hit = reach & free;
+    let hit = unheld(opens, owner, slot, free, reach);
     if hit != 0 {
         return relocate(opens, owner, slot, free, set, words::lowest(hit));
     }
@@ -69,8 +85,9 @@ pub fn vacate(opens: &[u64], owner: &mut [u8; 64], slot: &mut [u8; 64], free: u6
     relocate(opens, owner, slot, r.word, set, r.at)
 }
 
-// Item x, which holds no slot, gets one of `cand` if that is possible with the slots of `fixed` left to their holders.
-pub fn assign(
+// Item x, which holds no slot, gets one of `cand`, which are all held, if that is possible with the slots of `fixed` left to their
+// holders.
+pub fn displace(
     opens: &[u64],
     owner: &mut [u8; 64],
     slot: &mut [u8; 64],
@@ -79,19 +96,9 @@ pub fn assign(
     cand: u64,
     fixed: u64,
 ) -> Found {
-    let hit = cand & free;
-    if hit != 0 {
-        let h = words::lowest(hit);
-        owner[h] = x as u8;
-        slot[x] = h as u8;
-        return Found { at: h, word: words::without(free, h) };
-    }
     let r = vacate(opens, owner, slot, free, cand, fixed | cand);
     if r.at == 64 {
         return r;
     }
-    let k = r.at;
-    owner[k] = x as u8;
-    slot[x] = k as u8;
-    Found { at: k, word: words::without(r.word, k) }
+    Found { at: r.at, word: take(opens, owner, slot, r.word, x, r.at) }
 }

@@ -5,7 +5,7 @@ use super::augment::Found;
 use super::{answers, augment, maximum, words};
 use crate::records::PlanAnswer;
 
-// Item x moves to a slot of `cand` if that is possible with the slots of `fixed` left to their holders.
+// Item x moves to a slot of `cand`, which other items hold, if that is possible with the slots of `fixed` left to their holders.
 pub fn shift(
     opens: &[u64],
     owner: &mut [u8; 64],
@@ -16,10 +16,11 @@ pub fn shift(
     fixed: u64,
 ) -> Found {
     let s = words::wide(slot[x]);
-    augment::assign(opens, owner, slot, words::with(free, s), x, cand, fixed)
+    augment::displace(opens, owner, slot, words::with(free, s), x, cand, fixed)
 }
 
-// Item x, which holds a slot of `may`, moves to the least of these that leaves the slots of `fixed` to their holders.
+// Item x, which holds a slot of `may`, moves to the least of these that leaves the slots of `fixed` to their holders. No lower slot of
+// `may` is free.
 pub fn lower(
     opens: &[u64],
     owner: &mut [u8; 64],
@@ -47,6 +48,11 @@ pub fn lower(
     Found { at: s, word: f }
 }
 
+// The slots of a word below s that are not fixed.
+pub fn below(word: u64, fixed: u64, s: usize) -> u64 {
+    words::minus(word, fixed) & words::low(s)
+}
+
 // `table` gets, for each item from `from` on, the slots open to the items after it.
 pub fn later(opens: &[u64], from: usize, table: &mut [u64; 64]) {
     let mut all: u64 = 0;
@@ -58,13 +64,14 @@ pub fn later(opens: &[u64], from: usize, table: &mut [u64; 64]) {
     }
 }
 
-// Whether an item may leave its slot s at all, with the items before it left alone: only if an item after it may use s, or it or one
-// of these may use a free slot. `after` are the slots open to the items after it; 0 means no.
-pub fn can_leave(s: usize, word: u64, after: u64, free: u64) -> u64 {
-    (after & words::single(s)) | ((after | word) & free)
+// Whether an item may leave its slot s at all, with the items before it left alone: only if it may use a free slot, or an item after
+// it may use s or a free slot. `hit` are the slots both open to it and free, `after` those open to the items after it; 0 means no.
+pub fn can_leave(s: usize, hit: u64, after: u64, free: u64) -> u64 {
+    hit | (after & words::with(free, s))
 }
 
-// Item x gets the least slot that leaves those of the items before it to them.
+// Item x gets the least slot that leaves those of the items before it to them. It keeps its own if they hold every lower one that is
+// open to it.
 pub fn minimize(
     opens: &[u64],
     owner: &mut [u8; 64],
@@ -76,14 +83,23 @@ pub fn minimize(
 ) -> Found {
     let s = words::wide(slot[x]);
     let word = opens[x];
-    if can_leave(s, word, after, free) == 0 {
+    if below(word, fixed, s) == 0 {
         return Found { at: s, word: free };
+    }
+    let hit = augment::vacant(opens, owner, slot, free, x);
+    if can_leave(s, hit, after, free) == 0 {
+        return Found { at: s, word: free };
+    }
+    let near = hit & words::low(s);
+    if near != 0 {
+        let f = augment::take(opens, owner, slot, words::with(free, s), x, words::lowest(near));
+        return lower(opens, owner, slot, f, x, word, fixed);
     }
     lower(opens, owner, slot, free, x, word, fixed)
 }
 
 // The items from `from` on get, one after the other, their least slots; `fixed` are the slots of the items before.
-pub fn settle(opens: &[u64], owner: &mut [u8; 64], slot: &mut [u8; 64], free: u64, from: usize, fixed: u64) {
+fn settle_each(opens: &[u64], owner: &mut [u8; 64], slot: &mut [u8; 64], free: u64, from: usize, fixed: u64) {
     let mut table = [0u64; 64];
     later(opens, from, &mut table);
     let mut f = free;
@@ -94,6 +110,21 @@ pub fn settle(opens: &[u64], owner: &mut [u8; 64], slot: &mut [u8; 64], free: u6
         let r = minimize(opens, owner, slot, f, i, after, fixed_now);
         f = r.word;
         fixed_now = words::with(fixed_now, r.at);
+        i += 1;
+    }
+}
+
+// The same, but first the items that can have no lower slot are passed, up to one that may: an item keeps its slot if the items before
+// it hold every lower one that is open to it. Where all are passed, nothing is searched.
+pub fn settle(opens: &[u64], owner: &mut [u8; 64], slot: &mut [u8; 64], free: u64, from: usize, fixed: u64) {
+    let mut fixed_now = fixed;
+    let mut i = from;
+    while i < opens.len() {
+        let s = words::wide(slot[i]);
+        if below(opens[i], fixed_now, s) != 0 {
+            return settle_each(opens, owner, slot, free, i, fixed_now);
+        }
+        fixed_now = words::with(fixed_now, s);
         i += 1;
     }
 }

@@ -20,16 +20,21 @@ pub fn fill(opens: &[u64], owner: &mut [u8; 64], slot: &mut [u8; 64], free: u64,
     while left != 0 {
         let x = words::lowest(left);
         left = words::without_lowest(left);
-        let cand = words::minus(opens[x], dead);
-        if cand == 0 {
-            exposed = words::with(exposed, x);
+        let hit = augment::vacant(opens, owner, slot, f, x);
+        if hit != 0 {
+            f = augment::take(opens, owner, slot, f, x, words::lowest(hit));
         } else {
-            let r = augment::assign(opens, owner, slot, f, x, cand, dead);
-            if r.at == 64 {
+            let cand = words::minus(opens[x], dead);
+            if cand == 0 {
                 exposed = words::with(exposed, x);
-                dead = r.word;
             } else {
-                f = r.word;
+                let r = augment::displace(opens, owner, slot, f, x, cand, dead);
+                if r.at == 64 {
+                    exposed = words::with(exposed, x);
+                    dead = r.word;
+                } else {
+                    f = r.word;
+                }
             }
         }
     }
@@ -52,7 +57,7 @@ pub fn neighbours(opens: &[u64], items: u64) -> u64 {
 // reachable now is found from all of them at once, so a search that fails again does not walk them one by one.
 pub fn refill(opens: &[u64], owner: &mut [u8; 64], slot: &mut [u8; 64], free: u64, exposed: u64, dead: u64) -> Maximum {
     let set = dead | neighbours(opens, exposed);
-    if set & free != 0 {
+    if augment::unheld(opens, owner, slot, free, set) != 0 {
         return fill(opens, owner, slot, free, exposed);
     }
     let r = augment::vacate(opens, owner, slot, free, set, set);

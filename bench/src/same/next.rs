@@ -1,7 +1,7 @@
 //! The next perfect matching after a given one (the next plan of docs/RULES.md). The tables are those of `augment`.
 
 use super::augment::Found;
-use super::{answers, least, plan, words};
+use super::{answers, augment, least, plan, words};
 use crate::records::{Plan, PlanAnswer};
 
 // Item x moves to the least slot above its own that leaves those of the items before it to them, if there is one. `after` are the
@@ -17,13 +17,19 @@ pub fn advance_item(
 ) -> Found {
     let s = words::wide(slot[x]);
     let word = opens[x];
-    if least::can_leave(s, word, after, free) == 0 {
+    let hit = augment::vacant(opens, owner, slot, free, x);
+    if least::can_leave(s, hit, after, free) == 0 {
         return Found { at: 64, word: free };
     }
     let may = words::minus(word, words::low(s + 1));
     let cand = words::minus(may, fixed);
     if cand == 0 {
         return Found { at: 64, word: free };
+    }
+    let near = hit & may;
+    if near != 0 {
+        let f = augment::take(opens, owner, slot, words::with(free, s), x, words::lowest(near));
+        return least::lower(opens, owner, slot, f, x, may, fixed);
     }
     let r = least::shift(opens, owner, slot, free, x, cand, fixed);
     if r.at == 64 {

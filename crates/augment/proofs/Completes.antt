@@ -6,7 +6,6 @@ use lib.ListN.{length}
 use Rattle.words.specs.Word.{with}
 use Rattle.model.specs.Plans.{IsPlan}
 use Rattle.augment.specs.Table.{own, at, cell, Table, Matched, Exposed, Complete}
-use Rattle.augment.specs.Search.{Assigned}
 use Rattle.augment.proofs.Moves.{same-or, Released, release}
 
 module _ (w o p : List ℕ) (f : ℕ) (C : Complete w o p f) where
@@ -34,10 +33,8 @@ module _ (w o p : List ℕ) (f : ℕ) (C : Complete w o p f) where
     pub leave-exposed : Exposed o p (with f (at p x)) x
     leave-exposed = subst (Exposed o p (with f (at p x))) (M .owns) (left .exposed)
 
-    -- and takes another
-    pub take-complete : (cand fixed : ℕ) (o′ p′ : List ℕ) (f′ k : ℕ) → Assigned w o p (with f (at p x)) x cand fixed o′ p′ f′ k → Complete w o′ p′ f′
-    take-complete cand fixed o′ p′ f′ k A =
-        record {
-          table = A .table;
-          all = λ y g. same-or y x (λ e. rw e (A .holds)) (λ d. A .stay y (left .stay y (λ e. d (e ∙ M .owns)) (C .all y g)));
-        }
+    -- and has another, while the others hold slots as before
+    pub take-complete : {o′ p′ : List ℕ} {f′ : ℕ} → Table w o′ p′ f′ → Matched o′ p′ f′ x
+        → ((y : ℕ) → Matched o p (with f (at p x)) y → Matched o′ p′ f′ y) → Complete w o′ p′ f′
+    take-complete T′ holds stay =
+        record { table = T′; all = λ y g. same-or y x (λ e. rw e holds) (λ d. stay y (left .stay y (λ e. d (e ∙ M .owns)) (C .all y g))) }

@@ -12,6 +12,7 @@ use Rattle.words.specs.Word.{bit, with, without}
 use Rattle.words.proofs.Bits.{bit-lt, at-slot, bit-with, bit-with-other, bit-without, bit-without-other}
 use Rattle.words.proofs.SetLaws.{bit-with-le}
 use Rattle.augment.specs.Table.{own, at, cell, Table, Matched, Exposed}
+use Rattle.augment.specs.Search.{Takeable, Taken}
 
 -- one of two cases
 pub same-or : {A : Type 0} (k l : ℕ) → (k ≡ l → A) → (k ≢ l → A) → A
@@ -31,15 +32,6 @@ pub record Released (w o p : List ℕ) (f k : ℕ) : Type 0 where
   pub exposed : Exposed o p (with f k) (own o k)
   pub stay : (x : ℕ) → x ≢ own o k → Matched o p f x → Matched o p (with f k) x
   pub new : (x : ℕ) → Matched o p (with f k) x → Matched o p f x
-
--- item y holds slot h now
-pub record Taken (w o p : List ℕ) (f y h : ℕ) : Type 0 where
-  pub table : Table w (set o h y) (set p y h) (without f h)
-  pub slot : at (set p y h) y ≡ h
-  pub holds : Matched (set o h y) (set p y h) (without f h) y
-  pub kept : (l : ℕ) → l ≢ h → (bit (without f h) l ≡ bit f l) × (own (set o h y) l ≡ own o l)
-  pub stay : (x : ℕ) → Matched o p f x → Matched (set o h y) (set p y h) (without f h) x
-  pub new : (x : ℕ) → x ≢ y → Matched (set o h y) (set p y h) (without f h) x → Matched o p f x
 
 module _ {w o p : List ℕ} {f : ℕ} (T : Table w o p f) where
   -- a held slot's holder is matched
@@ -64,7 +56,8 @@ module _ {w o p : List ℕ} {f : ℕ} (T : Table w o p f) where
         new = λ x M. record { slot = M .slot; held = still (at p x) (M .held); owns = M .owns };
       }
 
-  pub take : (y h : ℕ) → y < length w → Exposed o p f y → h < 64 → bit f h ≡ 1 → cell w y h ≡ 1 → Taken w o p f y h
+  pub take : (y h : ℕ) → y < length w → Exposed o p f y → h < 64 → bit f h ≡ 1 → cell w y h ≡ 1
+      → Taken w o p f y h (set o h y) (set p y h) (without f h)
   take y h known E g b may =
       let o₁ = set o h y in
       let p₁ = set p y h in
@@ -91,6 +84,7 @@ module _ {w o p : List ℕ} {f : ℕ} (T : Table w o p f) where
         };
         slot = at-y;
         holds = record { slot = omega (arith, at-y); held = ap (bit f₁) at-y ∙ bit-without f h; owns = ap (own o₁) at-y ∙ own-h };
+        filled = bit-without f h;
         kept = λ l d. (bit-without-other f h l d, own-other l d);
         stay = λ x M.
             let e = at-other x (λ q. E (subst (Matched o p f) q M)) in
@@ -103,3 +97,6 @@ module _ {w o p : List ℕ} {f : ℕ} (T : Table w o p f) where
             let held = sym (bit-without-other f h (at p x) s) ∙ ap (bit f₁) (sym e) ∙ M .held in
             record { slot = omega (arith, e, M .slot); held = held; owns = sym (own-other (at p x) s) ∙ ap (own o₁) (sym e) ∙ M .owns };
       }
+
+pub taken : {w o p : List ℕ} {f x h : ℕ} → Takeable w o p f x h → Taken w o p f x h (set o h x) (set p x h) (without f h)
+taken {x = x} {h = h} K = take (K .table) x h (K .known) (K .exposed) (K .below) (K .hole) (K .may)

@@ -1,22 +1,19 @@
--- The steps of `relocate`, `vacate` and `assign`, as plain mathematics. Assumes nothing.
+-- The steps of `relocate`, `vacate` and `displace`, as plain mathematics. Assumes nothing.
 use mathlib.Core.Path.{_≡_, refl, ap, _∙_}
 use mathlib.Core.Logic.{_≢_}
 use mathlib.Core.List.{List}
 use Prim.Native.Nat.{ℕ, _-_, _^_, _≤_, _<_, min, max}
 use native.Mathlib.Omega.{arith}
-use lib.Bits.{bitAnd, bitOr, and-le-l, or-lt}
+use lib.Bits.{bitOr, or-lt}
 use lib.Count.{ones, ones-le}
-use lib.ListN.{length, getD, set}
-use Rattle.words.specs.Word.{bit, with, without, minus, lowest}
-use Rattle.words.proofs.Bits.{bit-lt, bit-empty, bit-and, bit-or, bit-minus, bit-with, bit-with-other}
-use Rattle.words.proofs.SetLaws.{bit-with-le, minus-le, ones-proper, lowest-lt, bit-lowest, common}
+use lib.ListN.{length, getD}
+use Rattle.words.specs.Word.{bit, with, minus, lowest}
+use Rattle.words.proofs.Bits.{bit-lt, bit-empty, bit-or, bit-minus, bit-with, bit-with-other}
+use Rattle.words.proofs.SetLaws.{bit-with-le, minus-le, ones-proper, lowest-lt, bit-lowest, Common}
 use Rattle.augment.specs.Table.{own, cell, Table, Matched, Owners, span}
-use Rattle.augment.specs.Search.{Movable, Mover, Relocatable, Relocated, Vacatable, Vacated, Certificate, Assignable, Assigned, Barred}
+use Rattle.augment.specs.Search.{Takeable, Taken, Movable, Mover, Relocatable, Relocated, Vacatable, Vacated, Certificate, Assignable, Assigned, Barred}
 use Rattle.augment.proofs.Spans.{span-into, span-from, span-lt}
-use Rattle.augment.proofs.Moves.{same-or, bit-le, holder-matched, release, take}
-
-apart : (a b k : ℕ) → bitAnd a b ≡ 0 → bit a k ≡ 1 → bit b k ≡ 0
-apart a b k z e = omega (arith, bit-and a b k, ap (λ x. bit x k) z, bit-empty k)
+use Rattle.augment.proofs.Moves.{same-or, bit-le, Released, holder-matched, release}
 
 -- the slots of a set that are held have owners
 pub table-owners : {w o p : List ℕ} {f : ℕ} → Table w o p f → (set : ℕ) → ((k : ℕ) → k < 64 → bit set k ≡ 1 → bit f k ≡ 0) → Owners w o set
@@ -35,19 +32,31 @@ module _ {w o p : List ℕ} {f set′ h : ℕ} (P : Relocatable w o p f set′ h
     pub relocate-item : own o k < length w
     relocate-item = P .table .item k (G .below) held
 
-    pub relocated : Relocated w o p f set′ h (set o h (own o k)) (set p (own o k) h) (without (with f k) h) k
-    relocated =
-        let R = release (P .table) k (G .below) held in
-        let hole : bit (with f k) h ≡ 1 = omega (arith, P .hole, bit-with-le f k h, bit-lt (with f k) h) in
-        let N = take (R .table) (own o k) h relocate-item (R .exposed) (P .below) hole (G .may) in
+    -- slot k is released
+    left : Released w o p f k
+    left = release (P .table) k (G .below) held
+
+    pub relocate-takeable : Takeable w o p (with f k) (own o k) h
+    relocate-takeable = record {
+      table = left .table;
+      known = relocate-item;
+      exposed = left .exposed;
+      below = P .below;
+      hole = omega (arith, P .hole, bit-with-le f k h, bit-lt (with f k) h);
+      may = G .may;
+    }
+
+    pub relocated : {o′ p′ : List ℕ} {f′ : ℕ} → Taken w o p (with f k) (own o k) h o′ p′ f′ → Relocated w o p f set′ h o′ p′ f′ k
+    relocated N =
         record {
           table = N .table;
           below = G .below;
           from = G .from;
           hole = N .kept k (λ e. omega (arith, held, ap (bit f) e, P .hole)) .0 ∙ bit-with f k;
+          filled = N .filled;
           kept = λ l g a b. (N .kept l b .0 ∙ bit-with-other f k l a, N .kept l b .1);
-          stay = λ x M. same-or x (own o k) (λ e. rw e (N .holds)) (λ d. N .stay x (R .stay x d M));
-          new = λ x M. same-or x (own o k) (λ e. rw e (holder-matched (P .table) k (G .below) held)) (λ d. R .new x (N .new x d M));
+          stay = λ x M. same-or x (own o k) (λ e. rw e (N .holds)) (λ d. N .stay x (left .stay x d M));
+          new = λ x M. same-or x (own o k) (λ e. rw e (holder-matched (P .table) k (G .below) held)) (λ d. left .new x (N .new x d M));
         }
 
 -- ---- vacate
@@ -76,14 +85,16 @@ module _ {w o p : List ℕ} {f set′ seen : ℕ} (Z : Vacatable w o p f set′ 
 
   -- the holder of a slot of the set goes to a slot h outside `seen` that is free in tables that are the same on `seen`
   vacated-by : {o₁ p₁ : List ℕ} {f₁ h : ℕ} → ((l : ℕ) → l < 64 → bit seen l ≡ 1 → (l ≢ h) × (bit f₁ l ≡ 0) × (own o₁ l ≡ own o l))
+      → ((l : ℕ) → l < 64 → l ≢ h → bit f₁ l ≤ bit f l)
       → ((x : ℕ) → Matched o p f x → Matched o₁ p₁ f₁ x) → ((x : ℕ) → Matched o₁ p₁ f₁ x → Matched o p f x)
       → {o₂ p₂ : List ℕ} {f₂ k : ℕ} → Relocated w o₁ p₁ f₁ set′ h o₂ p₂ f₂ k → Vacated w o p f set′ seen o₂ p₂ f₂ k
-  vacated-by same stay new P =
+  vacated-by {h = h} same fewer stay new P =
       record {
         table = P .table;
         below = P .below;
         from = P .from;
         hole = P .hole;
+        fewer = λ l g d. same-or l h (λ e. rw e (omega (arith, P .filled))) (λ n. omega (arith, P .kept l g d n .0, fewer l g n));
         kept = λ l g b d. let s = same l g b in let r = P .kept l g d (s .0) in (r .0 ∙ s .1, r .1 ∙ s .2);
         stay = λ x M. P .stay x (stay x M);
         new = λ x M. new x (P .new x M);
@@ -91,18 +102,17 @@ module _ {w o p : List ℕ} {f set′ seen : ℕ} (Z : Vacatable w o p f set′ 
 
   pub vacated-at-hand : {h : ℕ} → Relocatable w o p f set′ h → {o′ p′ : List ℕ} {f′ k : ℕ} → Relocated w o p f set′ h o′ p′ f′ k
       → Vacated w o p f set′ seen o′ p′ f′ k
-  vacated-at-hand A = vacated-by (λ l g b. ((λ e. omega (arith, Z .held l g b, ap (bit f) e, A .hole)), Z .held l g b, refl)) (λ x M. M) (λ x M. M)
+  vacated-at-hand A = vacated-by (λ l g b. ((λ e. omega (arith, Z .held l g b, ap (bit f) e, A .hole)), Z .held l g b, refl)) (λ l g n. omega arith)
+      (λ x M. M) (λ x M. M)
 
   module _ {reach : ℕ} (er : reach ≡ span w o set′) where
     reach-lt : reach < 2 ^ 64
     reach-lt = rw er (span-lt w o set′ vacate-owners)
 
-    pub at-hand : {h : ℕ} → bitAnd reach f ≢ 0 → h ≡ lowest (bitAnd reach f) → Relocatable w o p f set′ h
-    at-hand {h} z e =
-        let c = common (λ k l. bit-and reach f k) (omega (arith, reach-lt, and-le-l reach f)) z e in
-        record { table = Z .table; held = held-set; below = c .below; hole = c .right; reached = rw (← er) (c .left) }
+    pub at-hand : {h : ℕ} → Common reach f h → Relocatable w o p f set′ h
+    at-hand H = record { table = Z .table; held = held-set; below = H .below; hole = H .right; reached = rw (← er) (H .left) }
 
-    module _ (fits : seen < 2 ^ 64) {layer : ℕ} (el : layer ≡ minus reach seen) (none : bitAnd reach f ≡ 0) where
+    module _ (fits : seen < 2 ^ 64) {layer : ℕ} (el : layer ≡ minus reach seen) (none : (k : ℕ) → k < 64 → bit reach k ≡ 1 → bit f k ≡ 0) where
       in-layer : (k : ℕ) → k < 64 → bit layer k ≡ min (bit reach k) (1 - bit seen k)
       in-layer k h = rw el (bit-minus reach seen k fits h)
 
@@ -147,7 +157,7 @@ module _ {w o p : List ℕ} {f set′ seen : ℕ} (Z : Vacatable w o p f set′ 
             vacatable = record {
               table = Z .table;
               sub = λ k h. omega (arith, bit-or seen layer k);
-              held = λ k h b. same-or (bit seen k) 1 (Z .held k h) (λ d. apart reach f k none (omega (arith, seen′ k h, bit-lt seen k)));
+              held = λ k h b. same-or (bit seen k) 1 (Z .held k h) (λ d. none k h (omega (arith, seen′ k h, bit-lt seen k)));
             };
             certificate = λ {t} C. record {
               more = λ k h. omega (arith, C .more k h, bit-or seen layer k);
@@ -180,48 +190,61 @@ module _ {w o p : List ℕ} {f set′ seen : ℕ} (Z : Vacatable w o p f set′ 
                   hole = U .hole;
                   reached = omega (arith, span-into w o₁ set′ (r .0) j (r .1) (r .2), ap (λ x. cell w x j) same, r .3, bit-lt (span w o₁ set′) j);
                 };
-            vacated = λ U P. vacated-by (kept-seen U) (U .stay) (U .new) P;
+            vacated = λ U P. vacated-by (kept-seen U) (U .fewer) (U .stay) (U .new) P;
           }
 
--- ---- assign
+-- ---- displace
 
 module _ {w o p : List ℕ} {f x cand fixed : ℕ} (A : Assignable w o p f x cand fixed) where
-  -- x takes slot k of cand, once that is free
-  assigned : {o₁ p₁ : List ℕ} {f₁ k : ℕ} → Vacated w o p f cand fixed o₁ p₁ f₁ k → Assigned w o p f x cand fixed (set o₁ k x) (set p₁ x k) (without f₁ k) k
-  assigned {k = k} U =
-      let may : cell w x k ≡ 1 = omega (arith, A .may k (U .below), U .from, bit-lt (getD w x 0) k) in
-      let N = take (U .table) x k (A .known) (λ M. A .exposed (U .new x M)) (U .below) (U .hole) may in
-      record {
-        table = N .table;
-        below = U .below;
-        from = U .from;
-        holds = N .holds;
-        slot = N .slot;
-        kept = λ l g e.
-            let d : l ≢ k = λ q. omega (arith, A .apart k (U .below), U .from, ap (bit fixed) q) in
-            let r = U .kept l g e d in
-            (N .kept l d .0 ∙ r .0, N .kept l d .1 ∙ r .1);
-        stay = λ y M. N .stay y (U .stay y M);
-        new = λ y d M. U .new y (N .new y d M);
-      }
+  -- slot k of cand is free, in tables that are the same on `fixed`
+  module _ {o₁ p₁ : List ℕ} {f₁ k : ℕ} (U : Vacated w o p f cand fixed o₁ p₁ f₁ k) where
+    vacated-takeable : Takeable w o₁ p₁ f₁ x k
+    vacated-takeable = record {
+      table = U .table;
+      known = A .known;
+      exposed = λ M. A .exposed (U .new x M);
+      below = U .below;
+      hole = U .hole;
+      may = omega (arith, A .may k (U .below), U .from, bit-lt (getD w x 0) k);
+    }
+
+    assigned : {o′ p′ : List ℕ} {f′ : ℕ} → Taken w o₁ p₁ f₁ x k o′ p′ f′ → Assigned w o p f x cand fixed o′ p′ f′ k
+    assigned N = record {
+      table = N .table;
+      below = U .below;
+      from = U .from;
+      holds = N .holds;
+      slot = N .slot;
+      fewer = λ l g. same-or l k (λ e. rw e (omega (arith, N .filled))) (λ d. omega (arith, N .kept l d .0, U .fewer l g d));
+      kept = λ l g e.
+          let d : l ≢ k = λ q. omega (arith, A .apart k (U .below), U .from, ap (bit fixed) q) in
+          let r = U .kept l g e d in
+          (N .kept l d .0 ∙ r .0, N .kept l d .1 ∙ r .1);
+      stay = λ y M. N .stay y (U .stay y M);
+      new = λ y d M. U .new y (N .new y d M);
+    }
 
   -- a slot of cand is free
-  pub at-once : {h : ℕ} → cand < 2 ^ 64 → bitAnd cand f ≢ 0 → h ≡ lowest (bitAnd cand f) → Assigned w o p f x cand fixed (set o h x) (set p x h) (without f h) h
-  at-once {h} l z e =
-      let c = common (λ k g. bit-and cand f k) (omega (arith, and-le-l cand f)) z e in
-      let free : Vacated w o p f cand fixed o p f h = search (A .held) in
-      assigned free
+  module _ {h : ℕ} (H : Common cand f h) where
+    at-once : Vacated w o p f cand fixed o p f h
+    at-once = search (A .held, arith)
 
-  pub assign-vacatable : bitAnd cand f ≡ 0 → Vacatable w o p f cand (bitOr fixed cand)
-  assign-vacatable none =
+    pub hole-takeable : Takeable w o p f x h
+    hole-takeable = vacated-takeable at-once
+
+    pub hole-assigned : {o′ p′ : List ℕ} {f′ : ℕ} → Taken w o p f x h o′ p′ f′ → Assigned w o p f x cand fixed o′ p′ f′ h
+    hole-assigned = assigned at-once
+
+  pub displace-vacatable : ((k : ℕ) → k < 64 → bit cand k ≡ 1 → bit f k ≡ 0) → Vacatable w o p f cand (bitOr fixed cand)
+  displace-vacatable none =
       record {
         table = A .table;
         sub = λ k h. omega (arith, bit-or fixed cand k);
-        held = λ k h b. same-or (bit fixed k) 1 (A .held k h) (λ d. apart cand f k none (omega (arith, bit-or fixed cand k, bit-lt fixed k)));
+        held = λ k h b. same-or (bit fixed k) 1 (A .held k h) (λ d. none k h (omega (arith, bit-or fixed cand k, bit-lt fixed k)));
       }
 
-  pub assign-barred : {t : ℕ} → Certificate w o f cand (bitOr fixed cand) t → Barred w o f cand fixed t
-  assign-barred C =
+  pub displace-barred : {t : ℕ} → Certificate w o f cand (bitOr fixed cand) t → Barred w o f cand fixed t
+  displace-barred C =
       record {
         has-fixed = λ k h. omega (arith, C .more k h, bit-or fixed cand k);
         all = λ k h. omega (arith, C .more k h, bit-or fixed cand k);
@@ -232,9 +255,14 @@ module _ {w o p : List ℕ} {f x cand fixed : ℕ} (A : Assignable w o p f x can
             (λ k h b e m. c k h b e (omega (arith, bit-or fixed cand k, A .apart k h)));
       }
 
-  pub assign-found : {o₁ p₁ : List ℕ} {f₁ k : ℕ} → Vacated w o p f cand (bitOr fixed cand) o₁ p₁ f₁ k
-      → Assigned w o p f x cand fixed (set o₁ k x) (set p₁ x k) (without f₁ k) k
-  assign-found {o₁} {p₁} {f₁} {k} U =
-      let wider : (l : ℕ) → bit fixed l ≡ 1 → bit (bitOr fixed cand) l ≡ 1 = λ l b. omega (arith, bit-or fixed cand l, bit-lt cand l) in
-      let free : Vacated w o p f cand fixed o₁ p₁ f₁ k = search (U .kept, wider) in
-      assigned free
+  module _ {o₁ p₁ : List ℕ} {f₁ k : ℕ} (U : Vacated w o p f cand (bitOr fixed cand) o₁ p₁ f₁ k) where
+    freed : Vacated w o p f cand fixed o₁ p₁ f₁ k
+    freed =
+        let wider : (l : ℕ) → bit fixed l ≡ 1 → bit (bitOr fixed cand) l ≡ 1 = λ l b. omega (arith, bit-or fixed cand l, bit-lt cand l) in
+        search (U .kept, wider)
+
+    pub displace-takeable : Takeable w o₁ p₁ f₁ x k
+    displace-takeable = vacated-takeable freed
+
+    pub displace-assigned : {o′ p′ : List ℕ} {f′ : ℕ} → Taken w o₁ p₁ f₁ x k o′ p′ f′ → Assigned w o p f x cand fixed o′ p′ f′ k
+    displace-assigned = assigned freed

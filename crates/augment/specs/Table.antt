@@ -1,6 +1,7 @@
 -- A partial matching of items and slots: w the open words, o the owners of the slots, p the slots of the items, f the free slots.
 -- Assumes nothing.
 use mathlib.Core.Path.{_≡_}
+use mathlib.Core.Logic.{_≢_}
 use mathlib.Core.List.{List, map}
 use Prim.Native.Nat.{ℕ, _^_, _≤_, _<_}
 use lib.ListN.{length, getD}
@@ -35,6 +36,10 @@ pub record Matched (o p : List ℕ) (f x : ℕ) : Type 0 where
   pub slot : at p x < 64
   pub held : bit f (at p x) ≡ 0
   pub owns : own o (at p x) ≡ x
+
+-- no item holds slot k
+abbrev pub Unheld : List ℕ → List ℕ → ℕ → ℕ → Type 0
+Unheld o p f k = (x : ℕ) → Matched o p f x → at p x ≢ k
 
 -- item x holds none: it is exposed
 abbrev pub Exposed : List ℕ → List ℕ → ℕ → ℕ → Type 0

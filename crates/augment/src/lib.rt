@@ -5,8 +5,9 @@ ghost use mathlib.Core.Path.{_≡_};
 ghost use mathlib.Core.Logic.{_≢_};
 ghost use Prim.Native.Nat.{_<_};
 ghost use lib.ListN.{length};
-ghost use Rattle.augment.specs.Table.{own, Owners, span};
-ghost use Rattle.augment.specs.Search.{Movable, Mover, Relocatable, Relocated, Vacatable, Vacated, Certificate, Assignable, Assigned, Barred, Same};
+ghost use Rattle.augment.specs.Table.{own, Table, Owners, span};
+ghost use Rattle.augment.specs.Search.{UnheldIn, Vacant, Takeable, Taken, Movable, Mover, Relocatable, Relocated, Vacatable, Vacated};
+ghost use Rattle.augment.specs.Search.{Certificate, Displaceable, Assigned, Barred, Same};
 
 // A slot that was found, below 64, and the word of free slots afterwards; or 64, and the closed set that rules every slot out.
 pub struct Found {
@@ -20,6 +21,40 @@ pub fn holder(owner: &[u8; 64], k: usize) -> usize
     ensures { λ r. ⌜ r ≡ own (now (owner .entry)) k ⌝ }
 {
     words::wide(owner[k])
+}
+
+// Of the slots of a word, those that no item holds. The tables are there for the promise: the code needs none of them.
+pub fn unheld(opens: &[u64], owner: &[u8; 64], slot: &[u8; 64], free: u64, word: u64) -> u64
+    requires { ⌜ Table (now opens) (now owner) (now slot) free ⌝ }
+    ensures { λ r. ⌜ UnheldIn (now (owner .entry)) (now (slot .entry)) free word r ⌝ }
+{
+    word & free
+}
+
+// The slots both open and free, for item x: bit j is set exactly if x may use slot j and no item holds it. Whoever serves an item asks
+// for them once, before any slot is tried.
+pub fn vacant(opens: &[u64], owner: &[u8; 64], slot: &[u8; 64], free: u64, x: usize) -> u64
+    requires { ⌜ Table (now opens) (now owner) (now slot) free × (x < length (now opens)) ⌝ }
+    ensures { λ r. ⌜ Vacant (now (opens .entry)) (now (owner .entry)) (now (slot .entry)) free x r ⌝ }
+{
+    unheld(opens, owner, slot, free, opens[x])
+}
+
+// Item x, which holds no slot, gets the free slot h, which is open to it. The free slots afterwards.
+pub fn take(
+    opens: &[u64],
+    owner: &mut [u8; 64],
+    slot: &mut [u8; 64],
+    free: u64,
+    x: usize,
+    h: usize,
+) -> u64
+    requires { ⌜ Takeable (now opens) (now owner) (now slot) free x h ⌝ }
+    ensures { λ r. ⌜ Taken (now (opens .entry)) (now (owner .entry)) (now (slot .entry)) free x h (now (owner .exit)) (now (slot .exit)) r ⌝ }
+{
+    owner[h] = x as u8;
+    slot[x] = h as u8;
+    words::without(free, h)
 }
 
 // The slots open to the holders of the slots of `set`.
@@ -69,11 +104,9 @@ pub fn relocate(
 {
     let k = mover(opens, owner, set, h);
     let y = holder(owner, k);
-    owner[h] = y as u8;
-    slot[y] = h as u8;
     Found {
         at: k,
-        word: words::without(words::with(free, k), h),
+        word: take(opens, owner, slot, words::with(free, k), y, h),
     }
 }
 
@@ -94,7 +127,7 @@ pub fn vacate(
         × Certificate (now (opens .entry)) (now (owner .entry)) free set seen (r .word)) ⌝ }
 {
     let reach = span(opens, owner, set);
-    let hit = reach & free;
+    let hit = unheld(opens, owner, slot, free, reach);
     if hit != 0 {
         return relocate(opens, owner, slot, free, set, words::lowest(hit));
     }
@@ -111,8 +144,9 @@ pub fn vacate(
     relocate(opens, owner, slot, r.word, set, r.at)
 }
 
-// Item x, which holds no slot, gets one of `cand` if that is possible with the slots of `fixed` left to their holders.
-pub fn assign(
+// Item x, which holds no slot, gets one of `cand`, which are all held, if that is possible with the slots of `fixed` left to their
+// holders.
+pub fn displace(
     opens: &[u64],
     owner: &mut [u8; 64],
     slot: &mut [u8; 64],
@@ -121,31 +155,18 @@ pub fn assign(
     cand: u64,
     fixed: u64,
 ) -> Found
-    requires { ⌜ Assignable (now opens) (now owner) (now slot) free x cand fixed ⌝ }
+    requires { ⌜ Displaceable (now opens) (now owner) (now slot) free x cand fixed ⌝ }
     ensures found { λ r. ⌜ (r .at ≢ 64 → Assigned (now (opens .entry)) (now (owner .entry)) (now (slot .entry)) free x cand fixed
         (now (owner .exit)) (now (slot .exit)) (r .word) (r .at)) ⌝ }
     ensures none { λ r. ⌜ (r .at ≡ 64 → Same (now (owner .entry)) (now (slot .entry)) (now (owner .exit)) (now (slot .exit))
         × Barred (now (opens .entry)) (now (owner .entry)) free cand fixed (r .word)) ⌝ }
 {
-    let hit = cand & free;
-    if hit != 0 {
-        let h = words::lowest(hit);
-        owner[h] = x as u8;
-        slot[x] = h as u8;
-        return Found {
-            at: h,
-            word: words::without(free, h),
-        };
-    }
     let r = vacate(opens, owner, slot, free, cand, fixed | cand);
     if r.at == 64 {
         return r;
     }
-    let k = r.at;
-    owner[k] = x as u8;
-    slot[x] = k as u8;
     Found {
-        at: k,
-        word: words::without(r.word, k),
+        at: r.at,
+        word: take(opens, owner, slot, r.word, x, r.at),
     }
 }

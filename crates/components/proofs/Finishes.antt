@@ -111,7 +111,7 @@ module _ {w o : List ℕ} {f rest₀ path set₀ out₀ : ℕ} {a : List ℕ} {r
           ⊎-elim
           (λ r. (
             r .slot,
-            complete-plan w (r .owner) (r .slot) (r .free) (take-complete w o p f (K .complete) x known (2 ^ j) 0 _ _ _ _ (r .holds)),
+            (let A = r .holds in complete-plan w (r .owner) (r .slot) (r .free) (take-complete w o p f (K .complete) x known (A .table) (A .holds) (A .stay))),
             r .holds .slot ∙ same-or (r .at) j (λ q. q) (λ d. absurd (omega (arith, r .holds .from, bit-single-other j (r .at) d))),
           ))
           (λ r. absurd (not-barred (r .0) (r .2)))

@@ -3,22 +3,23 @@
 use mathlib.Core.Path.{_≡_, sym, ap, _∙_}
 use mathlib.Core.Logic.{_≢_}
 use mathlib.Core.List.{List}
-use Prim.Native.Nat.{ℕ, _+_, _-_, _^_, _≤_, _<_, max}
+use Prim.Native.Nat.{ℕ, _+_, _-_, _^_, _≤_, _<_}
 use native.Mathlib.Omega.{arith}
 use lib.Bits.{bitAnd, bitOr}
 use lib.ListN.{length, getD, set, length-set}
 use lib.Seq.{getD-set-same, getD-set-other}
 use Rattle.words.specs.Word.{bit, with, minus, low}
-use Rattle.words.proofs.Bits.{bit-lt, bit-empty, bit-and, bit-or, bit-minus, bit-low, bit-single, bit-with, bit-with-other, with-lt}
-use Rattle.words.proofs.SetLaws.{bit-with-le}
+use Rattle.words.proofs.Bits.{bit-lt, bit-empty, bit-one-lt, bit-and, bit-or, bit-minus, bit-low, low-lt, bit-with, bit-with-other, with-lt}
+use Rattle.words.proofs.SetLaws.{bit-with-le, Common}
 use Rattle.model.specs.Plans.{IsPlan}
-use Rattle.augment.specs.Table.{own, at, cell}
-use Rattle.augment.specs.Search.{Within, Agrees}
+use Rattle.augment.specs.Table.{own, at, cell, Table}
+use Rattle.augment.specs.Search.{Within, UnheldIn, Vacant, Agrees}
 use Rattle.augment.proofs.Moves.{same-or}
+use Rattle.augment.proofs.Vacants.{unheld-part, unheld-bit, unheld-none}
 use Rattle.augment.proofs.Bars.{Shut}
 use Rattle.augment.proofs.Completes.{complete-plan}
-use Rattle.least.specs.Least.{Fixed, Shifted, Lowerable, Lowered, LaterWithin, Later, Prefix, Minimizable, Settleable, Same-to, Settled}
-use Rattle.least.proofs.Shifts.{lt-or, own-slot, held-without, slot-small, closed-bars, lowered-shifted}
+use Rattle.least.specs.Least.{Fixed, Shifted, Lowerable, Lowered, LaterWithin, Prefix, Minimizable, Settleable, Same-to, Settled}
+use Rattle.least.proofs.Shifts.{lt-or, own-slot, held-without, slot-small, not-fixed, closed-bars, lowered-shifted, Near}
 
 -- ---- later: from the last item down to i
 
@@ -51,6 +52,31 @@ gathered-turn {w} {table} {all} {i} G some = record {
       (G .open-words y (omega arith) n))
       (λ d. rw (getD-set-other table (i - 1) x all 0 d) (G .words x (omega arith) g y m n));
 }
+
+-- ---- below: an item that has no lower slot but fixed ones keeps its own
+
+module _ {w o p : List ℕ} {f x fixed s cand : ℕ} (K : Fixed w o p f x fixed) (fits : fixed < 2 ^ 64) (es : s ≡ at p x)
+    (ec : cand ≡ bitAnd (minus (getD w x 0) fixed) (low s)) (none : cand ≡ 0) where
+  lower-fixed : (k : ℕ) → k < at p x → cell w x k ≡ 1 → bit fixed k ≡ 1
+  lower-fixed k l b =
+      let h : k < 64 = omega (arith, own-slot K .slot) in
+      omega (
+        arith,
+        bit-and (minus (getD w x 0) fixed) (low s) k,
+        ap (λ v. bit v k) (sym ec ∙ none),
+        bit-empty k,
+        bit-minus (getD w x 0) fixed k fits h,
+        bit-low s k (omega arith),
+        bit-lt fixed k,
+      )
+
+  pub below-kept : Lowered w o x (getD w x 0) fixed o p f s
+  below-kept =
+      let has = complete-plan w o p f (K .complete) .open-cell x (K .known) in
+      let least : (q : List ℕ) → IsPlan w q → Agrees o fixed q → at p x ≤ at q x = λ q Q A. lt-or (at q x) (at p x)
+      (λ l. absurd (omega (arith, lower-fixed (at q x) l (Q .open-cell x (K .known)), not-fixed K Q A)))
+      (λ m. m) in
+      rw es (search (has, K .held))
 
 -- ---- the slots of the items before x
 
@@ -102,82 +128,123 @@ module _ {w o p : List ℕ} {f x after fixed s : ℕ} (S : Minimizable w o p f x
   has-slot : cell w x (at p x) ≡ 1
   has-slot = complete-plan w o p f (S .before .complete) .open-cell x (S .known)
 
-  pub minimize-lowerable : Lowerable w o p f x (getD w x 0) fixed
-  minimize-lowerable = search (minimize-fixed, has-slot, arith)
+  table : Table w o p f
+  table = S .before .complete .table
 
-  -- where x can't leave its slot
-  module _ (fits : f < 2 ^ 64) (stays : bitOr (bitAnd after (2 ^ s)) (bitAnd (bitOr after (getD w x 0)) f) ≡ 0) where
-    -- no free slot is open to it or to an item after it
-    none-free : (k : ℕ) → max (bit after k) (cell w x k) + bit f k ≤ 1
-    none-free k = omega (arith, simp (bit-or, bit-and, bit-empty) at (ap (λ v. bit v k) stays), bit-lt after k, bit-lt (getD w x 0) k, bit-lt f k)
+  -- hit are the slots open to x that no item holds, near those below its own
+  module _ {hit : ℕ} (G : Vacant w o p f x hit) where
+    module _ {below : ℕ} (eb : below ≡ low s) where
+      near-vacant : UnheldIn o p f (bitAnd (getD w x 0) below) (bitAnd hit below)
+      near-vacant = unheld-part below G
 
-    -- and its own to none after it
-    own-its : bit after (at p x) ≡ 0
-    own-its = rw (sym es) (omega (arith, simp (bit-or, bit-and, bit-empty, bit-single) at (ap (λ v. bit v s) stays), bit-lt after s))
+      is-below : (k : ℕ) → k < at p x → bit below k ≡ 1
+      is-below k l = rw (eb, es) (bit-low (at p x) k l)
 
-    -- the held slots but its own are a closed set
-    abbrev others : ℕ
-    others = minus (low 64) (with f (at p x))
+      pub minimize-none : bitAnd hit below ≡ 0 → Lowerable w o p f x (getD w x 0) fixed
+      minimize-none z =
+          let none : (k : ℕ) → k < at p x → cell w x k ≡ 1 → bit f k ≡ 0 = λ k l b.
+          unheld-none table near-vacant z k (omega (arith, own-slot minimize-fixed .slot)) (omega (arith, bit-and (getD w x 0) below k, is-below k l)) in
+          search (minimize-fixed, has-slot, none, arith)
 
-    in-others : (k : ℕ) → k < 64 → bit others k ≡ 1 - bit (with f (at p x)) k
-    in-others k h =
-        bit-minus (low 64) (with f (at p x)) k (with-lt 64 f (at p x) fits (own-slot minimize-fixed .slot)) h
-        ∙ omega (arith, bit-low 64 k h, bit-lt (with f (at p x)) k)
+      pub minimize-near : {h : ℕ} → Common (bitAnd (getD w x 0) below) f h → Near w o p f x fixed (getD w x 0) h
+      minimize-near {h} H =
+          let both = bit-and (getD w x 0) below h in
+          let b : bit below h ≡ 1 = omega (arith, H .left, bit-lt below h) in
+          let l : h < at p x = bit-one-lt (at p x) (low (at p x)) h (low-lt (at p x)) (rw (eb, es) at b) in
+          record {
+            fixed-held = minimize-fixed;
+            cells = λ k g. omega arith;
+            below = H .below;
+            has = omega (arith, H .left, bit-lt (getD w x 0) h);
+            free = H .right;
+            none = λ j g c. (H .least j g (omega (arith, bit-and (getD w x 0) below j, is-below j (omega arith))), λ q. omega arith);
+          }
 
-    others-shut : Shut w o (with f (at p x)) fixed others
-    others-shut =
-        let T = S .before .complete .table in let s′ = at p x in record {
-          held = λ k h b. omega (arith, in-others k h, bit-lt (with f s′) k);
-          has-fixed = λ k h. same-or (bit fixed k) 1
-              (λ b. omega (arith, in-others k h, held-without minimize-fixed k h b))
-              (λ m. omega (arith, bit-lt fixed k));
-          -- the holder of a slot that is not fixed comes after x
-          shut = λ k h b c l g.
-              let held : bit f k ≡ 0 = omega (arith, in-others k h, bit-with-le f s′ k) in
-              let d : own o k ≢ x = λ e.
-              omega (arith, in-others k h, ap (bit (with f s′)) (sym (T .back k h held) ∙ ap (at p) e), bit-with f s′) in
-              let a = lt-or (own o k) x
-              (λ m. absurd (omega (arith, S .before .all k h held m)))
-              (λ m. S .later (own o k) (omega arith) (T .item k h held) l g) in
-              same-or l s′
-              (λ e. omega (arith, a, ap (bit after) e, own-its))
-              (λ m. omega (arith, a, none-free l, in-others l g, bit-with-other f s′ l m, bit-lt after l, bit-lt f l));
-        }
+    -- where x can't leave its slot
+    module _ (fits : f < 2 ^ 64) (stays : bitOr hit (bitAnd after (with f s)) ≡ 0) where
+      -- no free slot is open to it
+      none-free : (k : ℕ) → k < 64 → cell w x k ≡ 1 → bit f k ≡ 0
+      none-free k h b =
+          omega (arith, simp (bit-or, bit-and, bit-empty) at (ap (λ v. bit v k) stays), unheld-bit table G k h, bit-lt f k)
 
-    pub pinned : (q : List ℕ) → IsPlan w q → Agrees o fixed q → at q x ≡ at p x
-    pinned q Q A =
-        let k = at q x in
-        same-or k (at p x) (λ e. e)
-        (λ d.
-        let out = closed-bars minimize-fixed others-shut Q A in let i = in-others k (slot-small minimize-fixed Q) in
-        absurd (omega (arith, bit-with-other f (at p x) k d, Q .open-cell x (S .known), none-free k)))
+      -- nor its own or a free one to an item after it
+      none-after : (k : ℕ) → bit after k + bit (with f (at p x)) k ≤ 1
+      none-after k = rw (sym es)
+          (omega (arith, simp (bit-or, bit-and, bit-empty) at (ap (λ v. bit v k) stays), bit-lt after k, bit-lt (with f s) k))
 
-    pub minimize-pinned : Lowered w o x (getD w x 0) fixed o p f s
-    minimize-pinned =
-        let least : (q : List ℕ) → IsPlan w q → Agrees o fixed q → at p x ≤ at q x = λ q Q A. omega (arith, pinned q Q A) in
-        rw es (search (has-slot, S .before .held))
+      -- the held slots but its own are a closed set
+      abbrev others : ℕ
+      others = minus (low 64) (with f (at p x))
+
+      in-others : (k : ℕ) → k < 64 → bit others k ≡ 1 - bit (with f (at p x)) k
+      in-others k h =
+          bit-minus (low 64) (with f (at p x)) k (with-lt 64 f (at p x) fits (own-slot minimize-fixed .slot)) h
+          ∙ omega (arith, bit-low 64 k h, bit-lt (with f (at p x)) k)
+
+      others-shut : Shut w o (with f (at p x)) fixed others
+      others-shut =
+          let s′ = at p x in record {
+            held = λ k h b. omega (arith, in-others k h, bit-lt (with f s′) k);
+            has-fixed = λ k h. same-or (bit fixed k) 1
+                (λ b. omega (arith, in-others k h, held-without minimize-fixed k h b))
+                (λ m. omega (arith, bit-lt fixed k));
+            -- the holder of a slot that is not fixed comes after x
+            shut = λ k h b c l g.
+                let held : bit f k ≡ 0 = omega (arith, in-others k h, bit-with-le f s′ k) in
+                let d : own o k ≢ x = λ e.
+                omega (arith, in-others k h, ap (bit (with f s′)) (sym (table .back k h held) ∙ ap (at p) e), bit-with f s′) in
+                lt-or (own o k) x
+                (λ m. absurd (omega (arith, S .before .all k h held m)))
+                (λ m. omega (arith, S .later (own o k) (omega arith) (table .item k h held) l g, none-after l, in-others l g, bit-lt after l));
+          }
+
+      pub pinned : (q : List ℕ) → IsPlan w q → Agrees o fixed q → at q x ≡ at p x
+      pinned q Q A =
+          let k = at q x in let h = slot-small minimize-fixed Q in
+          same-or k (at p x) (λ e. e)
+          (λ d.
+          let out = closed-bars minimize-fixed others-shut Q A in
+          absurd (omega (arith, in-others k h, bit-with-other f (at p x) k d, none-free k h (Q .open-cell x (S .known)))))
+
+      pub minimize-pinned : Lowered w o x (getD w x 0) fixed o p f s
+      minimize-pinned =
+          let least : (q : List ℕ) → IsPlan w q → Agrees o fixed q → at p x ≤ at q x = λ q Q A. omega (arith, pinned q Q A) in
+          rw es (search (has-slot, S .before .held))
 
 -- ---- settle: the items from `from` to i have their least slots
 
-pub record Settling (w p₀ : List ℕ) (from : ℕ) (table o p : List ℕ) (f fixed i : ℕ) : Type 0 where
+pub record Settling (w p₀ : List ℕ) (from : ℕ) (o p : List ℕ) (f fixed i : ℕ) : Type 0 where
   pub few : length w ≤ 64
-  pub later : Later w from table
+  pub fits : fixed < 2 ^ 64
   pub before : Prefix w o p f i fixed
   pub low : from ≤ i
   pub high : i ≤ length w
   pub same : Same-to p p₀ from
   pub least : (x : ℕ) → from ≤ x → x < i → (q : List ℕ) → IsPlan w q → Same-to q p x → at p x ≤ at q x
 
-pub settling-start : {w table o p : List ℕ} {f from fixed : ℕ} → Settleable w o p f from fixed → Later w from table → Settling w p from table o p f fixed from
-settling-start S L = search arith
+pub settling-start : {w o p : List ℕ} {f from fixed : ℕ} → fixed < 2 ^ 64 → Settleable w o p f from fixed → Settling w p from o p f fixed from
+settling-start fits S = search arith
 
-module _ {w p₀ : List ℕ} {from : ℕ} {table o p : List ℕ} {f fixed i : ℕ} (S : Settling w p₀ from table o p f fixed i) where
+module _ {w p₀ : List ℕ} {from : ℕ} {o p : List ℕ} {f fixed i : ℕ} (S : Settling w p₀ from o p f fixed i) where
   pub settling-end : length w ≤ i → Settled w p₀ from p
   settling-end h = record { plan = complete-plan w o p f (S .before .complete); same = S .same; least = λ x l g. S .least x l (omega (arith, S .high)) }
 
+  -- the items from i on are settled by themselves
+  pub settling-settleable : Settleable w o p f i fixed
+  settling-settleable = record { before = S .before; within = S .high }
+
+  pub settling-rest : {p′ : List ℕ} → Settled w p i p′ → Settled w p₀ from p′
+  settling-rest R = record {
+    plan = R .plan;
+    same = λ l h. R .same l (omega (arith, S .low)) ∙ S .same l h;
+    least = λ x h g q Q A. lt-or x i
+        (λ m. omega (arith, S .least x h m q Q (λ l n. A l n ∙ R .same l (omega arith)), R .same x m))
+        (λ m. R .least x m g q Q A);
+  }
+
   module _ (more : i < length w) where
-    pub settling-minimizable : Minimizable w o p f i (getD table i 0) fixed
-    settling-minimizable = search (S .later i (S .low) more)
+    pub settling-minimizable : {after : ℕ} → LaterWithin w i after → Minimizable w o p f i after fixed
+    settling-minimizable L = search L
 
     module _ {o′ p′ : List ℕ} {f′ k : ℕ} (H : Lowered w o i (getD w i 0) fixed o′ p′ f′ k) where
       pub settling-slot : k < 64
@@ -186,10 +253,10 @@ module _ {w p₀ : List ℕ} {from : ℕ} {table o p : List ℕ} {f fixed i : �
       stays : Same-to p′ p i
       stays = prefix-stays (S .before) more (lowered-shifted H)
 
-      pub settling-turn : {fixed′ : ℕ} → fixed′ ≡ with fixed k → Settling w p₀ from table o′ p′ f′ fixed′ (i + 1)
+      pub settling-turn : {fixed′ : ℕ} → fixed′ ≡ with fixed k → Settling w p₀ from o′ p′ f′ fixed′ (i + 1)
       settling-turn e = record {
         few = S .few;
-        later = S .later;
+        fits = rw e (with-lt 64 fixed k (S .fits) settling-slot);
         before = prefix-next (S .before) more (lowered-shifted H) e;
         low = omega (arith, S .low);
         high = omega arith;
@@ -202,3 +269,7 @@ module _ {w p₀ : List ℕ} {from : ℕ} {table o p : List ℕ} {f fixed i : �
             let u : x < i = omega arith in
             omega (arith, S .least x h u q Q (λ l m. A l m ∙ stays l (omega arith)), stays x u));
       }
+
+    -- i has no lower slot but those of the items before it
+    pub settling-keeps : {s cand : ℕ} → s ≡ at p i → cand ≡ bitAnd (minus (getD w i 0) fixed) (low s) → cand ≡ 0 → Lowered w o i (getD w i 0) fixed o p f s
+    settling-keeps = below-kept (prefix-fixed (S .before) more) (S .fits)

@@ -20,9 +20,11 @@ pub record Fixed (w o p : List ℕ) (f x fixed : ℕ) : Type 0 where
 
 -- ---- shift
 
+-- the slots of cand are held by other items
 pub record Shiftable (w o p : List ℕ) (f x cand fixed : ℕ) : Type 0 where
   pub fixed-held : Fixed w o p f x fixed
   pub cells : Within cand (getD w x 0)
+  pub none : (k : ℕ) → k < 64 → bit cand k ≡ 1 → (bit f k ≡ 0) × (k ≢ at p x)
   pub apart : (k : ℕ) → k < 64 → bit cand k + bit fixed k ≤ 1
 
 -- x holds slot k of cand, and the slots of `fixed` have their holders
@@ -38,10 +40,12 @@ Stuck w o x cand fixed = (q : List ℕ) → IsPlan w q → Agrees o fixed q → 
 
 -- ---- lower
 
+-- x holds a slot of `may`, and no lower one is free
 pub record Lowerable (w o p : List ℕ) (f x may fixed : ℕ) : Type 0 where
   pub fixed-held : Fixed w o p f x fixed
   pub cells : Within may (getD w x 0)
   pub has : bit may (at p x) ≡ 1
+  pub none : (k : ℕ) → k < at p x → bit may k ≡ 1 → bit f k ≡ 0
 
 -- x holds slot k, the least of `may` that any plan gives it which leaves the slots of `fixed` to their holders
 pub record Lowered (w o : List ℕ) (x may fixed : ℕ) (o′ p′ : List ℕ) (f′ k : ℕ) : Type 0 where

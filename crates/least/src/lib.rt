@@ -2,16 +2,18 @@
 // before left to them. The tables are those of `augment`.
 ghost use mathlib.Core.Path.{_≡_};
 ghost use mathlib.Core.Logic.{_≢_};
-ghost use Prim.Native.Nat.{_^_, _≤_, _<_};
+ghost use Prim.Native.Nat.{_≤_, _<_};
 ghost use lib.Bits.{bitAnd, bitOr};
 ghost use lib.ListN.{length, getD};
+ghost use Rattle.words.specs.Word.{with, minus, low};
 ghost use Rattle.model.specs.PlanAnswers.{firstFrom};
-ghost use Rattle.augment.specs.Search.{Same};
+ghost use Rattle.augment.specs.Table.{at};
+ghost use Rattle.augment.specs.Search.{Within, Same};
 ghost use Rattle.least.specs.Least.{Shiftable, Shifted, Stuck, Lowerable, Lowered, Later, Minimizable, Settleable, Settled};
 use augment::Found;
 use model::PlanAnswer;
 
-// Item x moves to a slot of `cand` if that is possible with the slots of `fixed` left to their holders.
+// Item x moves to a slot of `cand`, which other items hold, if that is possible with the slots of `fixed` left to their holders.
 pub fn shift(
     opens: &[u64],
     owner: &mut [u8; 64],
@@ -23,15 +25,16 @@ pub fn shift(
 ) -> Found
     requires { ⌜ Shiftable (now opens) (now owner) (now slot) free x cand fixed ⌝ }
     ensures found { λ r. ⌜ (r .at ≢ 64 → Shifted (now (opens .entry)) (now (owner .entry)) x cand fixed
-        (now (owner .exit)) (now (slot .exit)) (r .word) (r .at)) ⌝ }
+        (now (owner .exit)) (now (slot .exit)) (r .word) (r .at) × Within (r .word) (with free (at (now (slot .entry)) x))) ⌝ }
     ensures none { λ r. ⌜ (r .at ≡ 64 → Same (now (owner .entry)) (now (slot .entry)) (now (owner .exit)) (now (slot .exit))
         × Stuck (now (opens .entry)) (now (owner .entry)) x cand fixed) ⌝ }
 {
     let s = words::wide(slot[x]);
-    augment::assign(opens, owner, slot, words::with(free, s), x, cand, fixed)
+    augment::displace(opens, owner, slot, words::with(free, s), x, cand, fixed)
 }
 
-// Item x, which holds a slot of `may`, moves to the least of these that leaves the slots of `fixed` to their holders.
+// Item x, which holds a slot of `may`, moves to the least of these that leaves the slots of `fixed` to their holders. No lower slot of
+// `may` is free.
 pub fn lower(
     opens: &[u64],
     owner: &mut [u8; 64],
@@ -62,6 +65,14 @@ pub fn lower(
     Found { at: s, word: f }
 }
 
+// The slots of a word below s that are not fixed.
+pub fn below(word: u64, fixed: u64, s: usize) -> u64
+    requires { ⌜ s ≤ 64 ⌝ }
+    ensures { λ r. ⌜ r ≡ bitAnd (minus word fixed) (low s) ⌝ }
+{
+    words::minus(word, fixed) & words::low(s)
+}
+
 // `table` gets, for each item from `from` on, the slots open to the items after it.
 pub fn later(opens: &[u64], from: usize, table: &mut [u64; 64])
     requires { ⌜ (length (now opens) ≤ 64) × (length (now table) ≡ 64) ⌝ }
@@ -76,16 +87,17 @@ pub fn later(opens: &[u64], from: usize, table: &mut [u64; 64])
     }
 }
 
-// Whether an item may leave its slot s at all, with the items before it left alone: only if an item after it may use s, or it or one
-// of these may use a free slot. `after` are the slots open to the items after it; 0 means no.
-pub fn can_leave(s: usize, word: u64, after: u64, free: u64) -> u64
+// Whether an item may leave its slot s at all, with the items before it left alone: only if it may use a free slot, or an item after
+// it may use s or a free slot. `hit` are the slots both open to it and free, `after` those open to the items after it; 0 means no.
+pub fn can_leave(s: usize, hit: u64, after: u64, free: u64) -> u64
     requires { ⌜ s < 64 ⌝ }
-    ensures { λ r. ⌜ r ≡ bitOr (bitAnd after (2 ^ s)) (bitAnd (bitOr after word) free) ⌝ }
+    ensures { λ r. ⌜ r ≡ bitOr hit (bitAnd after (with free s)) ⌝ }
 {
-    (after & words::single(s)) | ((after | word) & free)
+    hit | (after & words::with(free, s))
 }
 
-// Item x gets the least slot that leaves those of the items before it to them.
+// Item x gets the least slot that leaves those of the items before it to them. It keeps its own if they hold every lower one that is
+// open to it.
 pub fn minimize(
     opens: &[u64],
     owner: &mut [u8; 64],
@@ -101,14 +113,30 @@ pub fn minimize(
 {
     let s = words::wide(slot[x]);
     let word = opens[x];
-    if can_leave(s, word, after, free) == 0 {
+    if below(word, fixed, s) == 0 {
         return Found { at: s, word: free };
+    }
+    let hit = augment::vacant(opens, owner, slot, free, x);
+    if can_leave(s, hit, after, free) == 0 {
+        return Found { at: s, word: free };
+    }
+    let near = hit & words::low(s);
+    if near != 0 {
+        let f = augment::take(
+            opens,
+            owner,
+            slot,
+            words::with(free, s),
+            x,
+            words::lowest(near),
+        );
+        return lower(opens, owner, slot, f, x, word, fixed);
     }
     lower(opens, owner, slot, free, x, word, fixed)
 }
 
 // The items from `from` on get, one after the other, their least slots; `fixed` are the slots of the items before.
-pub fn settle(
+fn settle_each(
     opens: &[u64],
     owner: &mut [u8; 64],
     slot: &mut [u8; 64],
@@ -129,6 +157,31 @@ pub fn settle(
         let r = minimize(opens, owner, slot, f, i, after, fixed_now);
         f = r.word;
         fixed_now = words::with(fixed_now, r.at);
+        i += 1;
+    }
+}
+
+// The same, but first the items that can have no lower slot are passed, up to one that may: an item keeps its slot if the items before
+// it hold every lower one that is open to it. Where all are passed, nothing is searched.
+pub fn settle(
+    opens: &[u64],
+    owner: &mut [u8; 64],
+    slot: &mut [u8; 64],
+    free: u64,
+    from: usize,
+    fixed: u64,
+)
+    requires { ⌜ Settleable (now opens) (now owner) (now slot) free from fixed ⌝ }
+    ensures { λ _. ⌜ Settled (now (opens .entry)) (now (slot .entry)) from (now (slot .exit)) ⌝ }
+{
+    let mut fixed_now = fixed;
+    let mut i = from;
+    while i < opens.len() {
+        let s = words::wide(slot[i]);
+        if below(opens[i], fixed_now, s) != 0 {
+            return settle_each(opens, owner, slot, free, i, fixed_now);
+        }
+        fixed_now = words::with(fixed_now, s);
         i += 1;
     }
 }

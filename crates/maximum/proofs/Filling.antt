@@ -9,11 +9,12 @@ use lib.ListN.{length, getD, set, replicate, getD-replicate}
 use lib.Pow.{pow-pos}
 use Rattle.words.specs.Word.{bit, with, without, minus, low, lowest}
 use Rattle.words.proofs.Bits.{bit-lt, bit-empty, bit-one-lt, bit-minus, bit-low, low-lt, bit-with, bit-with-other, with-lt, bit-without, bit-without-other, without-le}
-use Rattle.words.proofs.SetLaws.{bit-with-le, bit-without-le}
+use Rattle.words.proofs.SetLaws.{bit-with-le, bit-without-le, Common}
 use Rattle.words.proofs.Walk.{Walk, Turn, walk, turn}
 use Rattle.augment.specs.Table.{at, cell, Table, Matched, Exposed}
-use Rattle.augment.specs.Search.{Assignable, Assigned, Barred, Same}
+use Rattle.augment.specs.Search.{Takeable, Taken, Assignable, Displaceable, Assigned, Barred, Same}
 use Rattle.augment.proofs.Moves.{same-or, take}
+use Rattle.augment.proofs.Searches.{hole-takeable, hole-assigned}
 use Rattle.maximum.specs.Maximum.{Fillable, Dead, Filled}
 
 pub record Filling (w : List ℕ) (wanting : ℕ) (o p : List ℕ) (f e d left : ℕ) : Type 0 where
@@ -31,8 +32,12 @@ pub record Filling (w : List ℕ) (wanting : ℕ) (o p : List ℕ) (f e d left :
 pub record FillTurn (w : List ℕ) (wanting : ℕ) (o p : List ℕ) (f e d left x rest : ℕ) : Type 0 where
   pub item : x < length w
   pub less : rest < left
-  -- it is given one of its slots that are not dead, if there is one
+  -- it is given a free slot, if one is open to it
+  pub takeable : {h : ℕ} → Common (getD w x 0) f h → Takeable w o p f x h
+  pub taken : {h : ℕ} → Common (getD w x 0) f h → {o′ p′ : List ℕ} {f′ : ℕ} → Taken w o p f x h o′ p′ f′ → Filling w wanting o′ p′ f′ e d rest
+  -- or one of its slots that are not dead, if there is one
   pub assignable : {cand : ℕ} → cand ≡ minus (getD w x 0) d → Assignable w o p f x cand d
+  pub displaceable : {cand : ℕ} → cand ≡ minus (getD w x 0) d → ((k : ℕ) → k < 64 → bit (getD w x 0) k ≡ 1 → bit f k ≡ 0) → Displaceable w o p f x cand d
   pub found : {cand : ℕ} {o′ p′ : List ℕ} {f′ k : ℕ} → Assigned w o p f x cand d o′ p′ f′ k → Filling w wanting o′ p′ f′ e d rest
   pub none : {cand e′ : ℕ} → cand ≡ minus (getD w x 0) d → cand ≡ 0 → e′ ≡ with e x → Filling w wanting o p f e′ d rest
   pub failed : {cand : ℕ} → cand ≡ minus (getD w x 0) d → {o′ p′ : List ℕ} {t e′ : ℕ} → t < 2 ^ 64 → e′ ≡ with e x
@@ -94,6 +99,21 @@ module _ {w : List ℕ} {wanting : ℕ} {o p : List ℕ} {f e d left : ℕ} (F :
             apart = λ k h. omega (arith, in-cand k h, bit-lt (getD w x 0) k, bit-lt d k);
           }
 
+      displaceable : ((k : ℕ) → k < 64 → bit (getD w x 0) k ≡ 1 → bit f k ≡ 0) → Displaceable w o p f x cand d
+      displaceable none = record { assignable = assignable; none = λ k h b. none k h (omega (arith, in-cand k h, bit-lt (getD w x 0) k)) }
+
+      -- a free slot is not dead
+      hole-cand : {h : ℕ} → Common (getD w x 0) f h → Common cand f h
+      hole-cand {h} H =
+          record {
+            below = H .below;
+            left = same-or (bit d h) 1
+                (λ b. absurd (omega (arith, F .dead .held h (H .below) b, H .right)))
+                (λ n. omega (arith, in-cand h (H .below), H .left, bit-lt d h));
+            right = H .right;
+            least = λ k g b. H .least k g (omega (arith, in-cand k (omega (arith, H .below)), bit-lt (getD w x 0) k));
+          }
+
       -- x stays exposed; t are the dead slots now
       stays : {t : ℕ} → t < 2 ^ 64 → Barred w o f cand d t → Filling w wanting o p f (with e x) t rest
       stays {t} ht B =
@@ -137,30 +157,38 @@ module _ {w : List ℕ} {wanting : ℕ} {o p : List ℕ} {f e d left : ℕ} (F :
             least = λ g i a c. i;
           }
 
+    -- x has a slot, and the dead ones have their holders
+    served : {cand : ℕ} {o′ p′ : List ℕ} {f′ k : ℕ} → Assigned w o p f x cand d o′ p′ f′ k → Filling w wanting o′ p′ f′ e d rest
+    served A =
+        record {
+          table = A .table;
+          walk = visit .next;
+          items = F .items;
+          exposed-items = F .exposed-items;
+          apart = λ y. omega (arith, F .apart y, bit-without-le left x y);
+          exposed = λ y b M. F .exposed y b (A .new y (λ q. omega (arith, F .apart y, ap (bit left) q, visit .here)) M);
+          waiting = λ y b M. let r = left-before y b in F .waiting y (r .0) (A .new y (r .1) M);
+          matched = λ y h b c. same-or y x (λ q. rw q (A .holds)) (λ n. A .stay y (F .matched y h b (sym (bit-without-other left x y n) ∙ c)));
+          dead = record {
+            fits = F .dead .fits;
+            held = λ l h b. A .kept l h b .0;
+            shut = λ l h b. rw (A .kept l h b .1) (F .dead .shut l h b);
+            all = F .dead .all;
+            least = λ g s c. F .dead .least g s (λ l h b q. rw (A .kept l h q .1) at (c l h b q));
+          };
+        }
+
     pub filling-turn : {x′ rest′ : ℕ} → x′ ≡ x → rest′ ≡ rest → FillTurn w wanting o p f e d left x′ rest′
     filling-turn ex er =
         rw (ex, er)
         (record {
           item = item;
           less = visit .less;
+          takeable = λ H. hole-takeable (assignable refl) (hole-cand refl H);
+          taken = λ H N. served (hole-assigned (assignable refl) (hole-cand refl H) N);
           assignable = assignable;
-          found = λ A. record {
-            table = A .table;
-            walk = visit .next;
-            items = F .items;
-            exposed-items = F .exposed-items;
-            apart = λ y. omega (arith, F .apart y, bit-without-le left x y);
-            exposed = λ y b M. F .exposed y b (A .new y (λ q. omega (arith, F .apart y, ap (bit left) q, visit .here)) M);
-            waiting = λ y b M. let r = left-before y b in F .waiting y (r .0) (A .new y (r .1) M);
-            matched = λ y h b c. same-or y x (λ q. rw q (A .holds)) (λ n. A .stay y (F .matched y h b (sym (bit-without-other left x y n) ∙ c)));
-            dead = record {
-              fits = F .dead .fits;
-              held = λ l h b. A .kept l h b .0;
-              shut = λ l h b. rw (A .kept l h b .1) (F .dead .shut l h b);
-              all = F .dead .all;
-              least = λ g s c. F .dead .least g s (λ l h b q. rw (A .kept l h q .1) at (c l h b q));
-            };
-          };
+          displaceable = displaceable;
+          found = served;
           none = λ ec z ee. rw ee (stays ec (F .dead .fits) (all-dead ec z));
           failed = λ ec ht ee r. rw (ee, r .0 .owner, r .0 .slot) (stays ec ht (r .1));
         })

@@ -35,16 +35,21 @@ pub fn fill(
     while left != 0 {
         let x = words::lowest(left);
         left = words::without_lowest(left);
-        let cand = words::minus(opens[x], dead);
-        if cand == 0 {
-            exposed = words::with(exposed, x);
+        let hit = augment::vacant(opens, owner, slot, f, x);
+        if hit != 0 {
+            f = augment::take(opens, owner, slot, f, x, words::lowest(hit));
         } else {
-            let r = augment::assign(opens, owner, slot, f, x, cand, dead);
-            if r.at == 64 {
+            let cand = words::minus(opens[x], dead);
+            if cand == 0 {
                 exposed = words::with(exposed, x);
-                dead = r.word;
             } else {
-                f = r.word;
+                let r = augment::displace(opens, owner, slot, f, x, cand, dead);
+                if r.at == 64 {
+                    exposed = words::with(exposed, x);
+                    dead = r.word;
+                } else {
+                    f = r.word;
+                }
             }
         }
     }
@@ -84,7 +89,7 @@ pub fn refill(
     ensures { λ r. ⌜ Filled (now (opens .entry)) (now (owner .exit)) (now (slot .exit)) (r .free) (r .exposed) (r .dead) ⌝ }
 {
     let set = dead | neighbours(opens, exposed);
-    if set & free != 0 {
+    if augment::unheld(opens, owner, slot, free, set) != 0 {
         return fill(opens, owner, slot, free, exposed);
     }
     let r = augment::vacate(opens, owner, slot, free, set, set);

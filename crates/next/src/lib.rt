@@ -32,13 +32,26 @@ pub fn advance_item(
 {
     let s = words::wide(slot[x]);
     let word = opens[x];
-    if least::can_leave(s, word, after, free) == 0 {
+    let hit = augment::vacant(opens, owner, slot, free, x);
+    if least::can_leave(s, hit, after, free) == 0 {
         return Found { at: 64, word: free };
     }
     let may = words::minus(word, words::low(s + 1));
     let cand = words::minus(may, fixed);
     if cand == 0 {
         return Found { at: 64, word: free };
+    }
+    let near = hit & may;
+    if near != 0 {
+        let f = augment::take(
+            opens,
+            owner,
+            slot,
+            words::with(free, s),
+            x,
+            words::lowest(near),
+        );
+        return least::lower(opens, owner, slot, f, x, may, fixed);
     }
     let r = least::shift(opens, owner, slot, free, x, cand, fixed);
     if r.at == 64 {

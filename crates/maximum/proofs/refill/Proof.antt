@@ -3,13 +3,14 @@ use mathlib.Core.Path.{_≡_, ap, _∙_}
 use mathlib.Core.List.{List}
 use Prim.Native.Nat.{ℕ, _^_, _≤_, _<_, max}
 use native.Mathlib.Omega.{arith}
-use lib.Bits.{bitAnd, bitOr}
+use lib.Bits.{bitOr}
 use Rattle.words.specs.Word.{bit}
-use Rattle.words.proofs.Bits.{bit-lt, bit-empty, bit-and, bit-or}
+use Rattle.words.proofs.Bits.{bit-lt, bit-or}
 use Rattle.model.specs.Deficiency.{neighbours}
 use Rattle.model.proofs.Deficiency.{neighbours-into, neighbours-from}
 use Rattle.augment.specs.Search.{Vacatable, Vacated, Certificate}
 use Rattle.augment.proofs.Moves.{bit-le}
+use Rattle.augment.proofs.Vacants.{unheld-none}
 use Rattle.maximum.specs.Maximum.{Fillable, Dead, Filled, Refillable}
 use borrow.Author.Needs.{needs}
 use Rattle.maximum.proofs.refill.Statement.{statement}
@@ -22,13 +23,8 @@ module _ {w o p : List ℕ} {f e d : ℕ} (R : Refillable w o p f e d) {near : �
   set-bit : (k : ℕ) → bit set k ≡ max (bit d k) (bit (neighbours w e) k)
   set-bit k = bit-or d near k ∙ ap (λ v. max (bit d k) (bit v k)) en
 
-  refill-vacatable : bitAnd set f ≡ 0 → Vacatable w o p f set set
-  refill-vacatable z =
-      record {
-        table = R .fillable .table;
-        sub = λ k h. omega arith;
-        held = λ k h b. omega (arith, bit-and set f k, ap (λ v. bit v k) z, bit-empty k, bit-lt f k);
-      }
+  refill-vacatable : ((k : ℕ) → k < 64 → bit set k ≡ 1 → bit f k ≡ 0) → Vacatable w o p f set set
+  refill-vacatable none = record { table = R .fillable .table; sub = λ k h. omega arith; held = none }
 
   -- none can be served
   refill-certificate : {t : ℕ} → t < 2 ^ 64 → Certificate w o f set set t → Filled w o p f e t
@@ -53,18 +49,26 @@ module _ {w o p : List ℕ} {f e d : ℕ} (R : Refillable w o p f e d) {near : �
 abbrev start : tie.After-neighbours → tie.Start
 start c = c .before .before
 
+abbrev at-near : tie.After-unheld → tie.After-neighbours
+at-near c = c .before .before .before
+
+abbrev at-unheld : tie.After-vacate → tie.After-unheld
+at-unheld c = c .before .before .before .before
+
 pub refill-spec : {M : Type 1} → statement M
 refill-spec =
-    tie.close (tie.spec (λ c κs. let F = c .before .pre .fillable in (F .table .few, F .items)) (λ c κs. start (c .before .before .before) .pre .fillable)
-    (λ c. c .fill .ensures)
-    (λ c κs. let at-near = c .before .before .before in refill-vacatable (start at-near .pre) (at-near .neighbours .ensures) (c .before .before .if1 .left))
-    (λ c.
-    let at-vacate = c .before .before in
-    let at-near = at-vacate .before .before .before .before in
-    let r = at-vacate .vacate .ensures .1 (c .if2 .taken) in
-    rw (r .0 .owner, r .0 .slot) (refill-certificate (start at-near .pre) (at-near .neighbours .ensures) (search needs) (r .1)))
+    tie.close (tie.spec (λ c κs. let F = c .before .pre .fillable in (F .table .few, F .items)) (λ c κs. start (c .before .before) .pre .fillable .table)
+    (λ c κs. start (at-near (c .before .before .before)) .pre .fillable) (λ c. c .fill .ensures)
     (λ c κs.
-    let at-vacate = c .before .before .before .before in
-    let at-near = at-vacate .before .before .before .before in
-    refill-vacated (start at-near .pre) (at-near .neighbours .ensures) (at-vacate .vacate .ensures .0 (c .before .before .if2 .left)))
+    let shut = c .before .before in let v = shut .before in let near = at-near v in let R = start near .pre in
+    refill-vacatable R (near .neighbours .ensures) (unheld-none (R .fillable .table) (v .unheld .ensures) (shut .if1 .left)))
+    (λ c.
+    let vacated = c .before .before in
+    let near = at-near (at-unheld vacated) in
+    let r = vacated .vacate .ensures .1 (c .if2 .taken) in
+    rw (r .0 .owner, r .0 .slot) (refill-certificate (start near .pre) (near .neighbours .ensures) (search needs) (r .1)))
+    (λ c κs.
+    let vacated = c .before .before .before .before in
+    let near = at-near (at-unheld vacated) in
+    refill-vacated (start near .pre) (near .neighbours .ensures) (vacated .vacate .ensures .0 (c .before .before .if2 .left)))
     (λ c. c .fill2 .ensures))
