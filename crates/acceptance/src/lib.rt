@@ -1,5 +1,5 @@
 // Refusals 1 to 7: whether two tables are accepted as a rota, and whether its plans can be counted and a fleet priced. Each test
-// stands alone; `count_code` and `price_code` make those of a call in their order.
+// stands alone; `sized_code`, `count_code` and `price_code` make those of a call in their order.
 ghost use mathlib.Core.Path.{_≡_};
 ghost use mathlib.Core.Bool.{cond};
 ghost use Prim.Native.Nat.{_≤_};
@@ -7,7 +7,7 @@ ghost use lib.Dec.{eqb};
 ghost use lib.ListN.{length};
 ghost use Rattle.model.specs.Rota.{cellCode, tableCode};
 ghost use Rattle.model.specs.Refusal.{sizeCode, tallyCode, fleetCode};
-ghost use Rattle.model.specs.CountAnswers.{countCode};
+ghost use Rattle.model.specs.CountAnswers.{sizedCode, countCode};
 ghost use Rattle.model.specs.PriceAnswers.{priceCode};
 
 // The first refusal: 3 for open bits beyond the slots, then 4 for callout bits on closed cells.
@@ -97,18 +97,26 @@ pub fn fleet_code(vehicles: u64) -> u32
     0
 }
 
+// 1 to 5 or 0.
+pub fn sized_code(n: usize, m: usize, opens: &[u64], callouts: &[u64]) -> u32
+    requires { ⌜ (n ≤ 64 → m ≤ 64) ⌝ }
+    ensures { λ r. ⌜ r ≡ sizedCode n m (now (opens .entry)) (now (callouts .entry)) ⌝ }
+{
+    let code = table_code(n, m, opens, callouts);
+    if code != 0 {
+        return code;
+    }
+    size_code(m)
+}
+
 // 1 to 6 or 0, for a tally of so many words.
 pub fn count_code(n: usize, m: usize, opens: &[u64], callouts: &[u64], tally: usize) -> u32
     requires { ⌜ (n ≤ 64 → m ≤ 64) ⌝ }
     ensures { λ r. ⌜ r ≡ countCode n m (now (opens .entry)) (now (callouts .entry)) tally ⌝ }
 {
-    let table = table_code(n, m, opens, callouts);
-    if table != 0 {
-        return table;
-    }
-    let size = size_code(m);
-    if size != 0 {
-        return size;
+    let code = sized_code(n, m, opens, callouts);
+    if code != 0 {
+        return code;
     }
     tally_code(m, tally)
 }

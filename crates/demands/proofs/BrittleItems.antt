@@ -29,7 +29,7 @@ use Rattle.model.proofs.Grades.{grade-one, grade-many, grade-forced, grade-few,
 use Rattle.model.proofs.Forced.{single-into, single-from, forced-into, forced-from, one-allowed}
 use Rattle.demands.specs.BrittleItems.{someOneOpen, gradeBefore, gradeAnswerBefore, priceAnswerBefore, Regraded, ThreeOrFour, BrittleItems}
 use Rattle.demands.proofs.Contracts.{grade-each, price-each}
-use Rattle.demands.proofs.Outcomes.{counted-tables}
+use Rattle.demands.proofs.Outcomes.{count-tested, price-tested}
 
 -- ---- the rules with and without a brittle item
 
@@ -175,7 +175,7 @@ module _ (n : ℕ) (opens callouts tally : List ℕ) where
   graded-before = gradeAnswerBefore n opens callouts (length tally)
 
   counted : countCode n n opens callouts (length tally) ≡ 0 → tableCode n n opens callouts ≡ 0
-  counted = counted-tables n opens callouts (length tally)
+  counted = count-tested n opens callouts (length tally) .tables
 
   grade-tally : gradeTally n n opens callouts tally ≡ written (graded-before .code) (subsetCounts n opens) tally
   unfolding gradeTally gradeAnswer gradeAnswerBefore
@@ -211,8 +211,7 @@ module _ (n : ℕ) (opens callouts : List ℕ) (vehicles : ℕ) (tally : List �
   cents grade = monthlyPrice grade vehicles (fewest n opens callouts)
 
   tables : code ≡ 0 → tableCode n n opens callouts ≡ 0
-  unfolding priceCode
-  tables z = counted-tables n opens callouts (length tally) (neither-refuses _ _ z .0)
+  tables = price-tested n opens callouts vehicles (length tally) .tables
 
   some-vehicles : code ≡ 0 → vehicles ≢ 0
   unfolding priceCode

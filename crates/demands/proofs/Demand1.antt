@@ -7,20 +7,18 @@ use Prim.Native.Nat.{ℕ, zero, suc, _+_, _*_, _^_}
 use lib.ListN.{length, take}
 use Rattle.model.specs.declared.Plan.{Plan}
 use Rattle.model.specs.declared.PlanAnswer.{PlanAnswer}
-use Rattle.model.specs.declared.CountAnswer.{CountAnswer}
 use Rattle.model.specs.declared.ReadAnswer.{ReadAnswer}
 use Rattle.model.specs.declared.WriteAnswer.{WriteAnswer}
 use Rattle.model.specs.Refusal.{orElse, unless, written, roomCode}
 use Rattle.model.specs.Rota.{tableCode}
 use Rattle.model.specs.CellPlans.{cellPlan}
-use Rattle.model.specs.Count.{count}
 use Rattle.model.specs.declared.Edition.{Edition}
 use Rattle.model.specs.File.{blocksFor, fileCode, itemsIn, slotsIn, opensIn, calloutsIn}
 use Rattle.model.specs.PlanAnswers.{given, refused, firstAnswer, nextAnswer, fewestAnswer, cellAnswer}
 use Rattle.model.specs.Lister.{listerAnswer, listerAfter}
 use Rattle.model.specs.SheetAnswers.{sheetCode, sheetAfter}
 use Rattle.model.specs.UsableAnswers.{usableAfter}
-use Rattle.model.specs.CountAnswers.{countRefused, countCode, countAnswer, countTally}
+use Rattle.model.specs.CountAnswers.{countUnless, sizedCode, countCode, countAnswer, countTally}
 use Rattle.model.specs.PriceAnswers.{gradeAnswer, gradeTally, priceCode, priceAnswer, priceTally}
 use Rattle.model.specs.FileAnswers.{readRefused, readCode, readAnswer, readOpens, readCallouts, writeRefused, writeCode, writeAnswer, writeFile, planFileCode}
 use Rattle.model.specs.FileAnswers.{onFile, bufferAfter}
@@ -34,7 +32,7 @@ use Rattle.demands.proofs.Contracts.{first-each, next-each, fewest-each
 use Rattle.demands.proofs.Contracts.{price-each, read-each, write-each, file-first-each, file-next-each, file-fewest-each, ask-nothing}
 use Rattle.demands.proofs.TestLaws.{none-fits, tables-first, file-first, either, equals, less, test-first, room-first}
 use Rattle.demands.proofs.Definitions.{first-tests, plan-first, next-tests, fewest-tests, grade-tests, price-tests}
-use Rattle.demands.proofs.Outcomes.{first-says, next-says, list-says, fewest-says, grade-says, price-says}
+use Rattle.demands.proofs.Outcomes.{first-says, next-says, list-says, fewest-says, count-tested, price-tested, grade-says, price-says}
 
 -- ---- the numbers, in their order
 
@@ -76,14 +74,20 @@ module _ (n : ℕ) (opens callouts : List ℕ) where
       → FirstOf (tables n opens callouts (test15 output wanted ∷ [])) (orElse (tableCode n n opens callouts) (roomCode (length output) wanted))
   room-says output wanted = tables-first n opens callouts _ _ (λ ok. last _ _ _ (room-first [] 0 output wanted (λ z. none-fits)) refl)
 
-  -- the tests of a count, then others
+  -- the tests up to 5, then others
+  sized : (others : List Test) (later : ℕ) → (tableCode n n opens callouts ≡ 0 → FirstOf others later)
+      → FirstOf (tables n opens callouts (test5 n ∷ others)) (orElse (sizedCode n n opens callouts) later)
+  unfolding sizedCode
+  sized others later f =
+      simp or-assoc (tables-first n opens callouts _ _ (λ ok. test-first (test5 n) 4 _ refl (less 20 n) others later (λ s. f ok)))
+
+  -- those and the tally's, then others
   counted : (tally : List ℕ) (others : List Test) (later : ℕ) → (tableCode n n opens callouts ≡ 0 → FirstOf others later)
       → FirstOf (tables n opens callouts (test5 n ∷ test6 n tally ∷ others)) (orElse (countCode n n opens callouts (length tally)) later)
   unfolding countCode
   counted tally others later f =
-      simp or-assoc
-      (tables-first n opens callouts _ _ (λ ok.
-      test-first (test5 n) 4 _ refl (less 20 n) _ _ (λ s. test-first (test6 n tally) 5 _ refl (less (length tally) (2 ^ n)) others later (λ t. f ok))))
+      rw (or-assoc (sizedCode n n opens callouts))
+      (sized _ _ (λ ok. test-first (test6 n tally) 5 _ refl (less (length tally) (2 ^ n)) others later (λ t. f ok)))
 
   count-number : (tally : List ℕ) → FirstOf (tables n opens callouts (test5 n ∷ test6 n tally ∷ [])) (countAnswer n n opens callouts (length tally) .code)
   count-number tally = last _ _ _ (counted tally [] 0 (λ ok. none-fits)) (count-code n n opens callouts (length tally))
@@ -132,11 +136,10 @@ zero-cell n opens callouts i j =
     let answer : ℕ → PlanAnswer = λ c. unless refused c (given (cellPlan n opens i j) 0) in
     elim (tableCode n n opens callouts) as (λ c. answer c .code ≢ 0 → Refused (answer c)) [ zero ↦ λ d. absurd (d refl) | suc c ↦ λ d. search refl ]
 
-zero-count : (n : ℕ) (opens callouts : List ℕ) (words : ℕ) → countAnswer n n opens callouts words .code ≢ 0 → countAnswer n n opens callouts words .count ≡ 0
-unfolding countAnswer unless
-zero-count n opens callouts words =
-    let answer : ℕ → CountAnswer = λ c. unless countRefused c (record { code = 0; count = count n opens }) in
-    elim (countCode n n opens callouts words) as (λ c. answer c .code ≢ 0 → answer c .count ≡ 0) [ zero ↦ λ d. absurd (d refl) | suc c ↦ λ d. refl ]
+zero-count : (code n : ℕ) (opens : List ℕ) → countUnless code n opens .code ≢ 0 → countUnless code n opens .count ≡ 0
+unfolding countUnless
+zero-count zero n opens d = absurd (d refl)
+zero-count (suc c) n opens d = refl
 
 zero-bytes : (n : ℕ) (opens callouts : List ℕ) (words : ℕ) → writeAnswer n n opens callouts words .code ≢ 0 → writeAnswer n n opens callouts words .bytes ≡ 0
 unfolding writeAnswer unless
@@ -192,15 +195,15 @@ demand1 =
       list-refused = list-each _ (λ e n o k. list-says n o k e .on-refusal);
       fewest-refused = fewest-each _ (λ n o k cap. fewest-says n o k cap .on-refusal);
       cell-refused = cell-each _ zero-cell;
-      count-refused = count-each _ (λ n o k tally. zero-count n o k (length tally));
-      grade-refused = grade-each _ (λ n o k tally. grade-says n o k (length tally) .0);
-      price-refused = price-each _ (λ n o k v tally. price-says n o k v (length tally) .0);
+      count-refused = count-each _ (λ n o k tally. zero-count (countCode n n o k (length tally)) n o);
+      grade-refused = grade-each _ (λ n o k tally. grade-says n o k (count-tested n o k (length tally)) .0);
+      price-refused = price-each _ (λ n o k v tally. price-says n o k (price-tested n o k v (length tally)) v .0);
       read-refused = read-each (λ file o k r o′ k′ e w x. subst (λ (x : ReadAnswer). x .code ≢ 0 → x .n ≡ 0) (sym e) (zero-items file (length o) (length k)));
       write-refused = write-each (λ n o k old r new e w. subst (λ (x : WriteAnswer). x .code ≢ 0 → x .bytes ≡ 0) (sym e) (zero-bytes n o k (length old)));
       list-keeps = list-each _ (λ e n o k. refused-keeps e (listerAnswer e n n o k));
       sheet-keeps = sheet-each _ (λ n o k g old. kept _ _ _ old _ refl refl);
       usable-keeps = usable-each _ (λ n o k old. kept _ _ _ old _ refl refl);
-      count-keeps = count-each _ (λ n o k tally. kept _ _ _ tally _ (count-code n n o k (length tally)) refl);
+      count-keeps = count-each _ (λ n o k tally. kept _ _ _ tally _ refl refl);
       grade-keeps = grade-each _ (λ n o k tally. kept _ _ _ tally _ refl refl);
       price-keeps = price-each _ (λ n o k v tally. kept _ _ _ tally _ refl refl);
       read-keeps = read-each (λ file o k r o′ k′ e w x d.

@@ -2,14 +2,14 @@
 use mathlib.Core.Path.{_≡_, refl, sym, ap, _∙_, subst}
 use mathlib.Core.Logic.{_↔_}
 use mathlib.Core.List.{List, _++_}
-use Prim.Native.Nat.{ℕ, _≤_, _<_}
+use Prim.Native.Nat.{ℕ, zero, suc, _≤_, _<_}
 use native.Mathlib.Omega.{arith}
 use lib.ListN.{length, getD, take, drop}
 use lib.Seq.{take-at}
 use Rattle.words.specs.Word.{bit}
 use Rattle.model.specs.declared.Plan.{Plan}
 use Rattle.model.specs.declared.PlanAnswer.{PlanAnswer}
-use Rattle.model.specs.Refusal.{unless, written}
+use Rattle.model.specs.Refusal.{written}
 use Rattle.model.specs.Rota.{tableCode}
 use Rattle.model.specs.Plans.{IsPlan}
 use Rattle.model.specs.Fewest.{fewest}
@@ -19,12 +19,12 @@ use Rattle.model.specs.declared.Edition.{Edition}
 use Rattle.model.specs.File.{itemsIn, slotsIn, opensIn, calloutsIn}
 use Rattle.model.specs.PlanAnswers.{refused, firstAnswer, nextAnswer, fewestAnswer}
 use Rattle.model.specs.UsableAnswers.{usableCode, usableAfter}
-use Rattle.model.specs.CountAnswers.{countCode, countAnswer, countTally}
+use Rattle.model.specs.CountAnswers.{countUnless, countCode, countTally}
 use Rattle.model.specs.PriceAnswers.{gradeTally, priceTally}
 use Rattle.model.specs.FileAnswers.{readAnswer, readOpens, readCallouts, writeAnswer, writeFile}
 use Rattle.model.specs.FileAnswers.{planFileCode, onFile, bufferAfter}
 use Rattle.model.proofs.Refusals.{neither-refuses, accepted-answer, all-written}
-use Rattle.model.proofs.Codes.{count-code, on-file-code}
+use Rattle.model.proofs.Codes.{on-file-code}
 use Rattle.model.proofs.Accepted.{tables-from}
 use Rattle.model.proofs.Editions.{one-tells, one-slots}
 use Rattle.model.proofs.Permanent.{permanent-is-count}
@@ -33,17 +33,17 @@ use Rattle.demands.specs.Demand2.{IsFirst, IsNext, IsFewestPlan, Demand2
 use Rattle.demands.proofs.Contracts.{first-each, next-each, fewest-each, list-each, usable-each, count-each, grade-each, price-each, read-each}
 use Rattle.demands.proofs.Contracts.{write-each, file-first-each, file-next-each, file-fewest-each}
 use Rattle.demands.proofs.Definitions.{usable-is, usable-words, front-at, further-kept, tallied-is}
-use Rattle.demands.proofs.Outcomes.{first-says, next-says, list-says, fewest-says, grade-says, price-says}
+use Rattle.demands.proofs.Outcomes.{first-says, next-says, list-says, fewest-says, count-tested, price-tested, grade-says, price-says}
 
 -- ---- tables, tallies and buffers that a success wrote
 
 by-code : (code : ℕ) (values old new : List ℕ) → new ≡ written code values old → code ≡ 0 → new ≡ values ++ drop (length values) old
 by-code code values old new e z = e ∙ sym (all-written code z values old)
 
-pub counted : (n : ℕ) (opens callouts : List ℕ) (words : ℕ) → countCode n n opens callouts words ≡ 0
-    → countAnswer n n opens callouts words .count ≡ permanent n opens
-unfolding countAnswer unless
-counted n opens callouts words z = rw (z, permanent-is-count n opens)
+pub counted : (code n : ℕ) (opens : List ℕ) → countUnless code n opens .code ≡ 0 → countUnless code n opens .count ≡ permanent n opens
+unfolding countUnless
+counted zero n opens z = sym (permanent-is-count n opens)
+counted (suc c) n opens z = absurd (omega arith)
 
 -- what a usable call that succeeded wrote
 module _ (n : ℕ) (opens callouts old : List ℕ) (z : usableCode n n opens callouts (length old) ≡ 0) where
@@ -104,17 +104,16 @@ demand2 =
       next = next-each _ (λ n o k g. next-says n o k g .on-success);
       fewest = fewest-each _ (λ n o k cap. fewest-says n o k cap .on-success);
       over = fewest-each _ (λ n o k cap. fewest-says n o k cap .on-11);
-      count = count-each _ (λ n o k tally z.
-          let c = sym (count-code n n o k (length tally)) ∙ z in
-          (counted n o k (length tally) c, tallied-is n o tally c));
+      count = count-each _ (λ n o k tally z. (counted (countCode n n o k (length tally)) n o z, tallied-is n o tally z));
       usable = usable-each _ usable-holds;
       first-short = first-each _ (λ n o k. first-says n o k .on-9);
       list-short = list-each _ (λ e n o k. list-says n o k e .on-9);
       fewest-short = fewest-each _ (λ n o k cap. fewest-says n o k cap .on-9);
-      grade-short = grade-each _ (λ n o k tally. grade-says n o k (length tally) .2);
-      price-short = price-each _ (λ n o k v tally. price-says n o k v (length tally) .2);
-      grade = grade-each _ (λ n o k tally z. let g = grade-says n o k (length tally) .1 z in (g .0, tallied-is n o tally z, g .1, g .2));
-      price = price-each _ (λ n o k v tally z. let g = price-says n o k v (length tally) .1 z in (g .0, tallied-is n o tally z, g .1, g .2));
+      grade-short = grade-each _ (λ n o k tally. grade-says n o k (count-tested n o k (length tally)) .2);
+      price-short = price-each _ (λ n o k v tally. price-says n o k (price-tested n o k v (length tally)) v .2);
+      grade = grade-each _ (λ n o k tally z. let g = grade-says n o k (count-tested n o k (length tally)) .1 z in (g .0, tallied-is n o tally z, g .1, g .2));
+      price = price-each _ (λ n o k v tally z.
+          let g = price-says n o k (price-tested n o k v (length tally)) v .1 z in (g .0, tallied-is n o tally z, g .1, g .2));
       file-first = file-first-each (λ file old r new e w z.
           let f = first-says (itemsIn file) (opensIn file) (calloutsIn file) .on-success (both file old firstAnswer r new e w z .1) .0 in
           in-buffer file old firstAnswer r new e w z (IsFirst (opensIn file)) (f .plan .sized) f);

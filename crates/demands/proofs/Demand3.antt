@@ -14,12 +14,12 @@ use Rattle.model.specs.Plans.{plans}
 use Rattle.model.specs.Allowed.{allowedWords}
 use Rattle.model.specs.Count.{count}
 use Rattle.model.specs.PlanAnswers.{given}
+use Rattle.model.specs.CountAnswers.{countCode, countAnswer}
 use Rattle.model.specs.Lister.{listerAnswer, stored, listerAfter}
 use Rattle.model.specs.Listing.{Answered, Chained, IsListing}
 use Rattle.model.specs.UsableAnswers.{usableCode, usableAfter}
 use Rattle.model.proofs.Order.{chain-at}
 use Rattle.model.proofs.Accepted.{accepted}
-use Rattle.model.proofs.Codes.{count-code}
 use Rattle.model.proofs.Plans.{plans-rise, plans-are}
 use Rattle.model.proofs.Allowed.{same-listing, none-allowed}
 use Rattle.model.proofs.Laws.{few, range, no-plans}
@@ -86,7 +86,7 @@ usable-written n opens n′ o k old sn so z = rw (← sn, ← so) (usable-front 
 -- ---- the theorem
 
 pub demand3 : (n : ℕ) (opens callouts : List ℕ) → tableCode n n opens callouts ≡ 0 → Demand3 n opens callouts
-unfolding count
+unfolding count countAnswer
 demand3 n opens callouts ok =
     let L = plans-listed n n opens callouts ok in
     let F = few n n opens callouts ok in
@@ -100,7 +100,7 @@ demand3 n opens callouts ok =
       every-plan = plans-are n opens F R;
       once = chain-at Before [] (plans n opens) (plans-rise n opens);
       counted = count-each _ (λ n′ o k tally sn so sk z.
-          counted n′ o k (length tally) (sym (count-code n′ n′ o k (length tally)) ∙ z) ∙ permanent-is-count n′ o ∙ ap₂ count sn so);
+          counted (countCode n′ n′ o k (length tally)) n′ o z ∙ permanent-is-count n′ o ∙ ap₂ count sn so);
       compared = λ opens″ callouts″ ok″.
           let sized = accepted n n opens″ callouts″ ok″ .open-words ∙ sym (accepted n n opens callouts ok .open-words) in
           let q = same-listing n opens opens″ F sized R (range n n opens″ callouts″ ok″) in

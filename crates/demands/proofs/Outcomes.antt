@@ -24,8 +24,8 @@ use Rattle.model.specs.Grade.{someForced, gradeOf, rotaGrade, rate, monthlyPric
 use Rattle.model.specs.PlanAnswers.{given, refused, short, overCap, noPlan, firstOf, firstFrom, firstAnswer, nextOf, nextFrom, nextAnswer, fewestOf, fewestFrom}
 use Rattle.model.specs.PlanAnswers.{fewestAnswer}
 use Rattle.model.specs.Lister.{listerAnswer}
-use Rattle.model.specs.CountAnswers.{countCode}
-use Rattle.model.specs.PriceAnswers.{gradeRefused, gradeBy, gradeAnswer, priceRefused, priceBy, priceCode, priceAnswer}
+use Rattle.model.specs.CountAnswers.{sizedCode, countCode}
+use Rattle.model.specs.PriceAnswers.{gradeRefused, gradeBy, gradeUnless, priceRefused, priceBy, priceUnless, priceCode}
 use Rattle.model.proofs.Members.{of-cond}
 use Rattle.model.proofs.Refusals.{neither-refuses}
 use Rattle.model.proofs.Accepted.{tables-from}
@@ -46,6 +46,11 @@ unfolding orElse
 or-low zero b h l = l
 or-low (suc a) b h l = h
 
+-- the number of tests before 8, those of the tables among them
+pub record CodeTested (n : ℕ) (opens callouts : List ℕ) (code : ℕ) : Type 0 where
+  pub low : code ≤ 7
+  pub tables : code ≡ 0 → tableCode n n opens callouts ≡ 0
+
 module _ (n : ℕ) (opens callouts : List ℕ) where
   table-low : tableCode n n opens callouts ≤ 7
   unfolding tableCode cellCode
@@ -53,14 +58,21 @@ module _ (n : ℕ) (opens callouts : List ℕ) where
       cond-low (eqb n 0 || ltb 64 n) 1 _ (omega arith) (cond-low (not (eqb (length opens) n) || not (eqb (length callouts) n)) 2 _ (omega arith)
       (cond-low (any (λ w. leb (2 ^ n) w) opens) 3 _ (omega arith) (cond-low (strayCallout opens callouts) 4 0 (omega arith) (omega arith))))
 
-  count-low : (words : ℕ) → countCode n n opens callouts words ≤ 7
-  unfolding countCode
-  count-low words =
-      or-low _ _ table-low (or-low _ _ (cond-low (ltb 20 n) 5 0 (omega arith) (omega arith)) (cond-low (ltb words (2 ^ n)) 6 0 (omega arith) (omega arith)))
+  -- one test more
+  then-tested : (a b : ℕ) → CodeTested n opens callouts a → b ≤ 7 → CodeTested n opens callouts (orElse a b)
+  then-tested a b t h = record { low = or-low a b (t .low) h; tables = λ z. t .tables (neither-refuses a b z .0) }
 
-  price-low : (vehicles words : ℕ) → priceCode n n opens callouts vehicles words ≤ 7
+  pub sized-tested : CodeTested n opens callouts (sizedCode n n opens callouts)
+  unfolding sizedCode
+  sized-tested = then-tested _ _ (record { low = table-low; tables = λ z. z }) (cond-low (ltb 20 n) 5 0 (omega arith) (omega arith))
+
+  pub count-tested : (words : ℕ) → CodeTested n opens callouts (countCode n n opens callouts words)
+  unfolding countCode
+  count-tested words = then-tested _ _ sized-tested (cond-low (ltb words (2 ^ n)) 6 0 (omega arith) (omega arith))
+
+  pub price-tested : (vehicles words : ℕ) → CodeTested n opens callouts (priceCode n n opens callouts vehicles words)
   unfolding priceCode
-  price-low vehicles words = or-low _ _ (count-low words) (cond-low (eqb vehicles 0 || ltb 10000 vehicles) 7 0 (omega arith) (omega arith))
+  price-tested vehicles words = then-tested _ _ (count-tested words) (cond-low (eqb vehicles 0 || ltb 10000 vehicles) 7 0 (omega arith) (omega arith))
 
 -- ---- the law of all of them
 
@@ -169,26 +181,21 @@ module _ (n : ℕ) (opens callouts : List ℕ) where
   some-fewest ok p l e = elim (fewestPlans n opens callouts) as (λ f. fewestPlans n opens callouts ≡ f → IsFewest opens callouts (fewest n opens callouts))
       [ [] ↦ λ q. absurd (nil≢cons (sym (fewest-empty n opens callouts q) ∙ e)) | x ∷ f ↦ λ q. is-fewest n n opens callouts ok x f q ] refl
 
-  pub counted-tables : (words : ℕ) → countCode n n opens callouts words ≡ 0 → tableCode n n opens callouts ≡ 0
-  unfolding countCode
-  counted-tables words z = neither-refuses (tableCode n n opens callouts) _ z .0
-
   abbrev GradeSays : GradeAnswer → Type 0
   GradeSays a =
       (a .code ≢ 0 → (a .grade ≡ 0) × (a .code ≢ 9 → (a .shortage ≡ 0) × (a .items ≡ 0)))
       × (a .code ≡ 0 → Graded (permanent n opens) opens (a .grade) × (a .shortage ≡ 0) × (a .items ≡ 0))
       × (a .code ≡ 9 → IsShort opens (a .shortage) (a .items))
 
-  pub grade-says : (words : ℕ) → GradeSays (gradeAnswer n n opens callouts words)
-  unfolding gradeAnswer gradeBy count
-  grade-says words =
-      outcome GradeSays gradeRefused (countCode n n opens callouts words) (λ l. gradeBy opens (length l) (rotaGrade n opens)) (plans n opens)
-      (count-low n opens callouts words)
+  pub grade-says : {code : ℕ} → CodeTested n opens callouts code → GradeSays (gradeUnless code n opens)
+  unfolding gradeUnless gradeBy count
+  grade-says {code} t =
+      outcome GradeSays gradeRefused code (λ l. gradeBy opens (length l) (rotaGrade n opens)) (plans n opens) (t .low)
       (λ c h. (λ d. (refl, λ x. (refl, refl)), λ z. absurd (omega arith), λ z. absurd (omega arith)))
-      (λ ok e. (λ d. (refl, λ x. absurd (x refl)), λ z. absurd (omega arith), λ z. is-short n opens callouts (counted-tables words ok) e))
-      (λ ok p l e. (λ d. absurd (d refl), λ z. (graded-is (counted-tables words ok) p l e, refl, refl), λ z. absurd (omega arith)))
+      (λ ok e. (λ d. (refl, λ x. absurd (x refl)), λ z. absurd (omega arith), λ z. is-short n opens callouts (t .tables ok) e))
+      (λ ok p l e. (λ d. absurd (d refl), λ z. (graded-is (t .tables ok) p l e, refl, refl), λ z. absurd (omega arith)))
 
-  module _ (vehicles words : ℕ) where
+  module _ {code : ℕ} (t : CodeTested n opens callouts code) (vehicles : ℕ) where
     abbrev PriceSays : PriceAnswer → Type 0
     PriceSays a =
         (a .code ≢ 0 → (a .cents ≡ 0) × (a .code ≢ 9 → (a .shortage ≡ 0) × (a .items ≡ 0)))
@@ -196,15 +203,13 @@ module _ (n : ℕ) (opens callouts : List ℕ) where
         × (a .cents ≡ rate grade vehicles * vehicles + 4500 * number)) × (a .shortage ≡ 0) × (a .items ≡ 0))
         × (a .code ≡ 9 → IsShort opens (a .shortage) (a .items))
 
-    pub price-says : PriceSays (priceAnswer n n opens callouts vehicles words)
-    unfolding priceAnswer priceCode priceBy monthlyPrice count
+    pub price-says : PriceSays (priceUnless code n opens callouts vehicles)
+    unfolding priceUnless priceBy monthlyPrice count
     price-says =
-        let tables : priceCode n n opens callouts vehicles words ≡ 0 → tableCode n n opens callouts ≡ 0 =
-        λ z. counted-tables words (neither-refuses _ _ z .0) in
         let cents = monthlyPrice (rotaGrade n opens) vehicles (fewest n opens callouts) in
-        outcome PriceSays priceRefused (priceCode n n opens callouts vehicles words) (λ l. priceBy opens (length l) cents)
-        (plans n opens) (price-low n opens callouts vehicles words)
+        outcome PriceSays priceRefused code (λ l. priceBy opens (length l) cents) (plans n opens) (t .low)
         (λ c h. (λ d. (refl, λ x. (refl, refl)), λ z. absurd (omega arith), λ z. absurd (omega arith)))
-        (λ ok e. (λ d. (refl, λ x. absurd (x refl)), λ z. absurd (omega arith), λ z. is-short n opens callouts (tables ok) e))
+        (λ ok e. (λ d. (refl, λ x. absurd (x refl)), λ z. absurd (omega arith), λ z. is-short n opens callouts (t .tables ok) e))
         (λ ok p l e.
-        (λ d. absurd (d refl), λ z. ((_, _, graded-is (tables ok) p l e, some-fewest (tables ok) p l e, refl), refl, refl), λ z. absurd (omega arith)))
+        let fine = t .tables ok in
+        (λ d. absurd (d refl), λ z. ((_, _, graded-is fine p l e, some-fewest fine p l e, refl), refl, refl), λ z. absurd (omega arith)))

@@ -17,13 +17,27 @@ use Rattle.model.specs.Count.{count}
 use Rattle.model.specs.Grade.{rotaGrade, monthlyPrice}
 use Rattle.model.specs.File.{itemsIn, slotsIn, opensIn, calloutsIn}
 use Rattle.model.specs.PlanAnswers.{refused, firstFrom, firstAnswer, nextFrom, nextAnswer, fewestFrom, fewestAnswer, cellAnswer}
-use Rattle.model.specs.CountAnswers.{countRefused, countCode, countAnswer}
-use Rattle.model.specs.PriceAnswers.{gradeRefused, gradeBy, gradeAnswer, priceRefused, priceBy, priceCode, priceAnswer}
+use Rattle.model.specs.CountAnswers.{countRefused, countUnless, countCode, countAnswer}
+use Rattle.model.specs.PriceAnswers.{gradeRefused, gradeBy, gradeUnless, gradeAnswer, priceRefused, priceBy, priceUnless, priceCode, priceAnswer}
 use Rattle.model.specs.FileAnswers.{readRefused, readCode, readAnswer, writeRefused, writeCode, writeAnswer, planFileCode, onFile}
 use Rattle.model.proofs.Refusals.{or-none, unless-code}
 
 pub plan-code : (code : ℕ) (a : PlanAnswer) → unless refused code a .code ≡ orElse code (a .code)
 plan-code = unless-code (λ (x : PlanAnswer). x .code) refused (λ c. refl)
+
+module _ (code m : ℕ) (opens : List ℕ) where
+  pub counted-code : countUnless code m opens .code ≡ code
+  unfolding countUnless
+  counted-code = unless-code (λ (x : CountAnswer). x .code) countRefused (λ c. refl) code _ ∙ or-none _
+
+  pub graded-code : gradeUnless code m opens .code ≡ orElse code (gradeBy opens (count m opens) (rotaGrade m opens) .code)
+  unfolding gradeUnless
+  graded-code = unless-code (λ (x : GradeAnswer). x .code) gradeRefused (λ c. refl) code _
+
+  pub priced-code : (callouts : List ℕ) (vehicles : ℕ) → priceUnless code m opens callouts vehicles .code
+      ≡ orElse code (priceBy opens (count m opens) (monthlyPrice (rotaGrade m opens) vehicles (fewest m opens callouts)) .code)
+  unfolding priceUnless
+  priced-code callouts vehicles = unless-code (λ (x : PriceAnswer). x .code) priceRefused (λ c. refl) code _
 
 module _ (n m : ℕ) (opens callouts : List ℕ) where
   pub first-code : firstAnswer n m opens callouts .code ≡ orElse (tableCode n m opens callouts) (firstFrom m opens .code)
@@ -45,18 +59,18 @@ module _ (n m : ℕ) (opens callouts : List ℕ) where
   module _ (words : ℕ) where
     pub count-code : countAnswer n m opens callouts words .code ≡ countCode n m opens callouts words
     unfolding countAnswer
-    count-code = unless-code (λ (x : CountAnswer). x .code) countRefused (λ c. refl) (countCode n m opens callouts words) _ ∙ or-none _
+    count-code = counted-code (countCode n m opens callouts words) m opens
 
     pub grade-code : gradeAnswer n m opens callouts words .code
         ≡ orElse (countCode n m opens callouts words) (gradeBy opens (count m opens) (rotaGrade m opens) .code)
     unfolding gradeAnswer
-    grade-code = unless-code (λ (x : GradeAnswer). x .code) gradeRefused (λ c. refl) (countCode n m opens callouts words) _
+    grade-code = graded-code (countCode n m opens callouts words) m opens
 
     pub price-code : (vehicles : ℕ) → priceAnswer n m opens callouts vehicles words .code
         ≡ orElse (priceCode n m opens callouts vehicles words)
         (priceBy opens (count m opens) (monthlyPrice (rotaGrade m opens) vehicles (fewest m opens callouts)) .code)
     unfolding priceAnswer
-    price-code vehicles = unless-code (λ (x : PriceAnswer). x .code) priceRefused (λ c. refl) (priceCode n m opens callouts vehicles words) _
+    price-code vehicles = priced-code (priceCode n m opens callouts vehicles words) m opens callouts vehicles
 
   pub write-code : (places : ℕ) → writeAnswer n m opens callouts places .code ≡ writeCode n m opens callouts places
   unfolding writeAnswer

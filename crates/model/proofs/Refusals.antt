@@ -7,6 +7,8 @@ use native.Mathlib.Omega.{arith}
 use borrow.Author.Tests.{lt-ltb, le-ltb, ltb-false, eqb-false}
 use lib.ListN.{length, drop}
 use Rattle.model.specs.Refusal.{orElse, unless, written, sizeCode, tallyCode, fleetCode, roomCode}
+use Rattle.model.specs.Rota.{tableCode}
+use Rattle.model.specs.CountAnswers.{sizedCode}
 use Rattle.model.proofs.Members.{neither}
 use Rattle.model.proofs.Accepted.{passed}
 
@@ -53,6 +55,11 @@ room-short places wanted h = simp (lt-ltb places wanted h)
 
 pub size-passed : (m : ℕ) → sizeCode m ≡ 0 → m ≤ 20
 size-passed m e = ltb-false 20 m (passed _ 4 0 e .0)
+
+-- 1 to 5
+pub sized-passed : (n m : ℕ) (opens callouts : List ℕ) → sizedCode n m opens callouts ≡ 0 → (tableCode n m opens callouts ≡ 0) × (m ≤ 20)
+unfolding sizedCode
+sized-passed n m opens callouts e = let a = neither-refuses _ _ e in (a .0, size-passed m (a .1))
 
 pub tally-passed : (m words : ℕ) → tallyCode m words ≡ 0 → 2 ^ m ≤ words
 tally-passed m words e = ltb-false words (2 ^ m) (passed _ 5 0 e .0)

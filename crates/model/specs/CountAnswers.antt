@@ -10,15 +10,25 @@ use Rattle.model.specs.Count.{count, subsetCounts}
 abbrev pub countRefused : ℕ → CountAnswer
 countRefused c = record { code = c; count = 0 }
 
+-- by the number of the first refusal
+unfoldable pub countUnless : ℕ → ℕ → List ℕ → CountAnswer
+unfolding unless count
+countUnless code m opens = unless countRefused code (record { code = 0; count = count m opens })
+
+-- 1 to 5
+unfoldable pub sizedCode : ℕ → ℕ → List ℕ → List ℕ → ℕ
+unfolding orElse tableCode
+sizedCode n m opens callouts = orElse (tableCode n m opens callouts) (sizeCode m)
+
 -- for a tally of so many words
 unfoldable pub countCode : ℕ → ℕ → List ℕ → List ℕ → ℕ → ℕ
-unfolding orElse tableCode
-countCode n m opens callouts words = orElse (tableCode n m opens callouts) (orElse (sizeCode m) (tallyCode m words))
+unfolding orElse sizedCode
+countCode n m opens callouts words = orElse (sizedCode n m opens callouts) (tallyCode m words)
 
 unfoldable pub countAnswer : ℕ → ℕ → List ℕ → List ℕ → ℕ → CountAnswer
-unfolding unless countCode count
-countAnswer n m opens callouts words = unless countRefused (countCode n m opens callouts words) (record { code = 0; count = count m opens })
+unfolding countUnless countCode
+countAnswer n m opens callouts words = countUnless (countCode n m opens callouts words) m opens
 
 unfoldable pub countTally : ℕ → ℕ → List ℕ → List ℕ → List ℕ → List ℕ
-unfolding written countCode subsetCounts
-countTally n m opens callouts tally = written (countCode n m opens callouts (length tally)) (subsetCounts m opens) tally
+unfolding written countAnswer subsetCounts
+countTally n m opens callouts tally = written (countAnswer n m opens callouts (length tally) .code) (subsetCounts m opens) tally

@@ -2,6 +2,7 @@ mod TableCalls
 mod SheetCalls
 mod Countable
 mod Priced
+mod Tallies
 mod Stepping
 mod FileTables
 mod OnFiles
