@@ -10,6 +10,7 @@ import re
 import sys
 
 STACK_LIMIT = 16 * 1024
+UNTALLIED_STACK_LIMIT = 8 * 1024
 
 
 def parts(path):
@@ -61,12 +62,19 @@ def result(times, peers, stack):
     counting = rows(times["Counting, n = 20, µs a call"])
     plan, fewest = rows(peers["A plan, µs a call"]), rows(peers["The fewest callouts, µs a call"])
     count = [row for row in rows(peers["The number of plans, µs a call"]) if row[0] == "20"]
+    untallied = rows(times["Counting without a tally, n = 20, µs a call"])
     most = max(int(row[2]) for row in stack)
     if most >= STACK_LIMIT:
         sys.exit(f"report: a call takes {most} bytes of stack")
+    most_untallied = max(int(row[2]) for row in stack if row[0].endswith("_untallied`"))
+    if most_untallied >= UNTALLIED_STACK_LIMIT:
+        sys.exit(f"report: a call without a tally takes {most_untallied} bytes of stack")
     counts = span([value / 1000 for value in numbers(counting, 1)], "{:.0f}")
+    untallied_counts = span([value / 1000 for value in numbers(untallied, 2)], "{:.1f}")
     return "\n".join([
         f"- At 20 items {calls(plans20)}; the count {counts} ms.",
+        f"- Without a tally the count of 20 items takes {untallied_counts} ms, {span(numbers(untallied, 5))} times as long as with one, by the number of "
+        f"open slots; {span(numbers(untallied, 4) + numbers(untallied, 8) + numbers(untallied, 11))} times as long as in Rust, grade and price too.",
         f"- At 64 items {calls(plans64)}.",
         f"- The first plan that holds an open cell takes {span(numbers(cells, 3))} µs at 64 items, {span(numbers(cells, 6))} times as long "
         f"as the first plan of the same family; a cell that is not open {span(numbers(others, 1))} µs.",
@@ -75,7 +83,7 @@ def result(times, peers, stack):
         f"- Instead of a plan igraph or LEMON, which answer less, take {whole(factors(plan, [3, 5]))} times as long "
         f"({whole(factors(plan, [4, 6]))} with a graph built before); for the fewest callouts {whole(factors(fewest, [3, 5, 7]))} "
         f"({whole(factors(fewest, [4, 6, 8]))}); PARI for the count {whole(factors(count, [4]))}.",
-        f"- No call took more than {most:,} bytes of stack.",
+        f"- No call took more than {most:,} bytes of stack, none without a tally more than {most_untallied:,}.",
     ])
 
 

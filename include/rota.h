@@ -44,10 +44,10 @@
 #include <stddef.h>
 #include <stdint.h>
 
-/* The version, in numbers and as a text made of them: "2.0.1". */
+/* The version, in numbers and as a text made of them: "2.1.0". */
 #define ROTA_VERSION_MAJOR 2
-#define ROTA_VERSION_MINOR 0
-#define ROTA_VERSION_PATCH 1
+#define ROTA_VERSION_MINOR 1
+#define ROTA_VERSION_PATCH 0
 #define ROTA_VERSION ROTA_VERSION_OF(ROTA_VERSION_MAJOR, ROTA_VERSION_MINOR, ROTA_VERSION_PATCH)
 #define ROTA_VERSION_OF(major, minor, patch) ROTA_VERSION_TEXT(major, minor, patch)
 #define ROTA_VERSION_TEXT(major, minor, patch) #major "." #minor "." #patch
@@ -249,6 +249,29 @@ rota_grade_answer rota_grade(size_t n, const uint64_t *opens, size_t opens_len,
 rota_price_answer rota_monthly_price(size_t n, const uint64_t *opens, size_t opens_len,
                                      const uint64_t *callouts, size_t callouts_len,
                                      uint64_t vehicles, uint64_t *tally, size_t tally_len);
+
+/*
+ * The number of complete plans without a tally: nothing is lent and nothing written. The answer is that of rota_count_plans
+ * with a tally long enough; 0 is a success. The time doubles with each item, as with a tally. Tests TABLES,
+ * ROTA_TOO_MANY_TO_COUNT.
+ */
+rota_count_answer rota_count_plans_untallied(size_t n, const uint64_t *opens, size_t opens_len,
+                                             const uint64_t *callouts, size_t callouts_len);
+
+/*
+ * The grade without a tally. The answer is that of rota_grade with a tally long enough; with ROTA_NO_PLAN it has the short
+ * items and the shortage. Tests TABLES, ROTA_TOO_MANY_TO_COUNT, ROTA_NO_PLAN.
+ */
+rota_grade_answer rota_grade_untallied(size_t n, const uint64_t *opens, size_t opens_len,
+                                       const uint64_t *callouts, size_t callouts_len);
+
+/*
+ * The monthly price in cents without a tally, for a fleet of 1 to 10,000 vehicles. The answer is that of rota_monthly_price
+ * with a tally long enough; with ROTA_NO_PLAN it has the short items and the shortage. Tests TABLES, ROTA_TOO_MANY_TO_COUNT,
+ * ROTA_BAD_FLEET, ROTA_NO_PLAN.
+ */
+rota_price_answer rota_monthly_price_untallied(size_t n, const uint64_t *opens, size_t opens_len,
+                                               const uint64_t *callouts, size_t callouts_len, uint64_t vehicles);
 
 /*
  * Reads a rota file. On success the first n words of opens and of callouts are written. Tests FILE,

@@ -58,6 +58,15 @@ pub fn hidden(n: usize, open: usize, random: &mut Random) -> Rota {
     rota
 }
 
+/// Exactly so many random slots for each item, one of them that of a random plan.
+fn exactly(n: usize, open: usize, random: &mut Random) -> Rota {
+    let plan = random.permutation(n);
+    plain(n, |i| {
+        let others = random.permutation(n).into_iter().filter(|&j| j != plan[i]);
+        others.take(open - 1).fold(1 << plan[i], |word, j| word | 1 << j)
+    })
+}
+
 pub fn dense(n: usize) -> Rota {
     plain(n, |_| slots(0, n))
 }
@@ -144,6 +153,18 @@ fn longest(n: usize) -> Rota {
 /// The families that are counted.
 pub fn counted(n: usize) -> Vec<Family> {
     vec![one("dense", dense(n)), random("random 6 and a plan", |r| hidden(n, 6, r)), one("triangle up", triangle_up(n))]
+}
+
+/// The families that are counted without a tally, beside the count with one.
+pub fn untallied(n: usize) -> Vec<Family> {
+    vec![
+        one("dense", dense(n)),
+        one("10 slots an item", exactly(n, 10.min(n), &mut Random::new(1))),
+        one("4 slots an item", exactly(n, 4, &mut Random::new(1))),
+        one("3 slots an item", exactly(n, 3, &mut Random::new(1))),
+        one("cycle", cycle(n)),
+        one("triangle up", triangle_up(n)),
+    ]
 }
 
 /// The families that go to the programs in C, of n items.

@@ -87,6 +87,22 @@ mod c {
             tally: *mut u64,
             tally_len: usize,
         ) -> PriceAnswer;
+        pub fn rota_count_plans_untallied(
+            n: usize,
+            o: *const u64,
+            o_len: usize,
+            c: *const u64,
+            c_len: usize,
+        ) -> CountAnswer;
+        pub fn rota_grade_untallied(n: usize, o: *const u64, o_len: usize, c: *const u64, c_len: usize) -> GradeAnswer;
+        pub fn rota_monthly_price_untallied(
+            n: usize,
+            o: *const u64,
+            o_len: usize,
+            c: *const u64,
+            c_len: usize,
+            vehicles: u64,
+        ) -> PriceAnswer;
         pub fn rota_read_file(
             file: *const u8,
             file_len: usize,
@@ -155,6 +171,18 @@ pub fn grade(n: usize, o: &[u64], c: &[u64], tally: &mut [u64]) -> GradeAnswer {
 pub fn monthly_price(n: usize, o: &[u64], c: &[u64], vehicles: u64, tally: &mut [u64]) -> PriceAnswer {
     let (out, len) = (tally.as_mut_ptr(), tally.len());
     unsafe { c::rota_monthly_price(n, o.as_ptr(), o.len(), c.as_ptr(), c.len(), vehicles, out, len) }
+}
+
+pub fn count_plans_untallied(n: usize, o: &[u64], c: &[u64]) -> CountAnswer {
+    unsafe { c::rota_count_plans_untallied(n, o.as_ptr(), o.len(), c.as_ptr(), c.len()) }
+}
+
+pub fn grade_untallied(n: usize, o: &[u64], c: &[u64]) -> GradeAnswer {
+    unsafe { c::rota_grade_untallied(n, o.as_ptr(), o.len(), c.as_ptr(), c.len()) }
+}
+
+pub fn monthly_price_untallied(n: usize, o: &[u64], c: &[u64], vehicles: u64) -> PriceAnswer {
+    unsafe { c::rota_monthly_price_untallied(n, o.as_ptr(), o.len(), c.as_ptr(), c.len(), vehicles) }
 }
 
 pub fn read_file(file: &[u8], o: &mut [u64], c: &mut [u64]) -> ReadAnswer {

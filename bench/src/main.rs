@@ -9,6 +9,7 @@ mod report;
 mod same;
 mod side;
 mod timing;
+mod untallied;
 
 use families::{counted, families, hardest, Family, Rota};
 use records::{Lister, Plan, PlanAnswer};
@@ -17,7 +18,7 @@ use side::{agree, Side, LIBRARY};
 use std::hint::black_box;
 use timing::times;
 
-const VEHICLES: u64 = 500;
+pub const VEHICLES: u64 = 500;
 
 /// The family of the tables that have one alone.
 const HIDDEN: &str = "random 6 and a plan";
@@ -141,6 +142,7 @@ fn growth(report: &mut Report) {
     growth_of_first(report);
     growth_of_fewest(report);
     growth_of_count(report);
+    untallied::growth(report);
 }
 
 fn growth_of_first(report: &mut Report) {
@@ -290,6 +292,7 @@ fn main() {
     plans(&mut report, 20, counted(20));
     cells::cells(&mut report);
     counts(&mut report, 20);
+    untallied::counts(&mut report, 20);
     desk(&mut report);
     growth(&mut report);
     files(&mut report);

@@ -11,6 +11,9 @@ const MOST_SHEET_RATIO: f64 = 1.5;
 /// The time of a cell's plan over that of the first plan.
 const MOST_FIRSTS: f64 = 1.5;
 
+/// The time of the count of 20 items without a tally over that with one, by the family.
+const MOST_TALLIED: [(&str, f64); 2] = [("dense", 1.6), ("4 slots an item", 1.0)];
+
 /// The limits on times, in µs, of 64 items.
 const LIMITS: [(&str, f64); 6] =
     [("first", 6.0), ("next", 4.0), ("usable", 6.0), ("fewest", 20.0), ("closed cell", 0.5), ("cell outside", 0.5)];
@@ -27,11 +30,12 @@ pub struct Report {
     pub rounds: u32,
     cells: Vec<Cell>,
     firsts: Vec<(&'static str, f64)>,
+    tallied: Vec<(usize, &'static str, f64)>,
 }
 
 impl Report {
     pub fn new(rounds: u32) -> Self {
-        Report { rounds, cells: Vec::new(), firsts: Vec::new() }
+        Report { rounds, cells: Vec::new(), firsts: Vec::new(), tallied: Vec::new() }
     }
 
     pub fn cell(&mut self, call: &'static str, n: usize, family: &'static str, times: Times) {
@@ -46,6 +50,25 @@ impl Report {
         self.cell("cell", 64, family, cell);
         print!(" {firsts:.2} |");
         self.firsts.push((family, firsts));
+    }
+
+    /// The count without a tally, and how many times as long as the count with one it takes.
+    pub fn beside_tally(&mut self, n: usize, family: &'static str, untallied: Times, tallied: Times) {
+        let ratio = untallied.library / tallied.library;
+        self.cell("count untallied", n, family, untallied);
+        print!(" {ratio:.2} |");
+        self.tallied.push((n, family, ratio));
+    }
+
+    /// The rows of the count without a tally; what is above its limit goes to the list.
+    fn tallied_limits(&self, above: &mut Vec<String>) {
+        for (family, limit) in MOST_TALLIED {
+            let ratios = self.tallied.iter().filter(|row| row.0 == 20 && row.1 == family).map(|row| row.2);
+            println!("| untallied / tallied count, n = 20, {family} | {limit:.1} | {} |", range(ratios.clone()));
+            for ratio in ratios.filter(|&ratio| ratio > limit) {
+                above.push(format!("count untallied, n = 20, {family}: {ratio:.2} times as long as with a tally"));
+            }
+        }
     }
 
     /// The worst of each call that has a limit, the ratios, and what is above its limit.
@@ -65,6 +88,7 @@ impl Report {
         for (family, firsts) in self.firsts.iter().filter(|family| family.1 > MOST_FIRSTS) {
             above.push(format!("cell, n = 64, {family}: {firsts:.2} times as long as first"));
         }
+        self.tallied_limits(&mut above);
         let ratios: [(&str, f64, fn(&Cell) -> bool); 3] = [
             ("n = 64, sheet", MOST_SHEET_RATIO, |cell| cell.n == 64 && cell.call == "sheet"),
             ("n = 64, other calls", MOST_RATIO, |cell| cell.n == 64 && cell.call != "sheet"),
@@ -94,7 +118,7 @@ fn range(ratios: impl Iterator<Item = f64> + Clone) -> String {
     format!("{least:.2} to {most:.2}")
 }
 
-fn digits(us: f64) -> String {
+pub fn digits(us: f64) -> String {
     if us < 100.0 {
         format!("{us:.2}")
     } else {

@@ -2,7 +2,7 @@
 
 use crate::library;
 use crate::records::{CountAnswer, GradeAnswer, Lister, Plan, PlanAnswer, PriceAnswer, ReadAnswer, WriteAnswer};
-use crate::same::rota::{counting, file_plans, files, lister, plans, pricing, sheets, usable};
+use crate::same::rota::{counting, file_plans, files, lister, plans, pricing, sheets, untallied, usable};
 use std::fmt::Debug;
 
 pub struct Side {
@@ -16,6 +16,9 @@ pub struct Side {
     pub count_plans: fn(usize, &[u64], &[u64], &mut [u64]) -> CountAnswer,
     pub grade: fn(usize, &[u64], &[u64], &mut [u64]) -> GradeAnswer,
     pub monthly_price: fn(usize, &[u64], &[u64], u64, &mut [u64]) -> PriceAnswer,
+    pub count_plans_untallied: fn(usize, &[u64], &[u64]) -> CountAnswer,
+    pub grade_untallied: fn(usize, &[u64], &[u64]) -> GradeAnswer,
+    pub monthly_price_untallied: fn(usize, &[u64], &[u64], u64) -> PriceAnswer,
     pub read_file: fn(&[u8], &mut [u64], &mut [u64]) -> ReadAnswer,
     pub write_file: fn(usize, &[u64], &[u64], &mut [u8]) -> WriteAnswer,
     pub file_first_plan: fn(&[u8], &mut [u8]) -> u32,
@@ -34,6 +37,9 @@ pub static LIBRARY: Side = Side {
     count_plans: library::count_plans,
     grade: library::grade,
     monthly_price: library::monthly_price,
+    count_plans_untallied: library::count_plans_untallied,
+    grade_untallied: library::grade_untallied,
+    monthly_price_untallied: library::monthly_price_untallied,
     read_file: library::read_file,
     write_file: library::write_file,
     file_first_plan: library::file_first_plan,
@@ -52,6 +58,9 @@ pub static RUST: Side = Side {
     count_plans: counting::rota_count_plans,
     grade: pricing::rota_grade,
     monthly_price: pricing::rota_monthly_price,
+    count_plans_untallied: untallied::rota_count_plans_untallied,
+    grade_untallied: untallied::rota_grade_untallied,
+    monthly_price_untallied: untallied::rota_monthly_price_untallied,
     read_file: files::rota_read_file,
     write_file: files::rota_write_file,
     file_first_plan: file_plans::rota_file_first_plan,

@@ -71,6 +71,9 @@ CALLER(usable_slots, rota_usable_slots(TABLES, usable, 64))
 CALLER(count_plans, rota_count_plans(TABLES, TALLY).code)
 CALLER(grade, rota_grade(TABLES, TALLY).code)
 CALLER(monthly_price, rota_monthly_price(TABLES, VEHICLES, TALLY).code)
+CALLER(count_plans_untallied, rota_count_plans_untallied(TABLES).code)
+CALLER(grade_untallied, rota_grade_untallied(TABLES).code)
+CALLER(monthly_price_untallied, rota_monthly_price_untallied(TABLES, VEHICLES).code)
 CALLER(read_file, rota_read_file(file, file_bytes, read_opens, 64, read_callouts, 64).code)
 CALLER(write_file, rota_write_file(TABLES, file, sizeof file).code)
 CALLER(file_first_plan, rota_file_first_plan(file, file_bytes, buffer, 64))
@@ -131,6 +134,9 @@ static row rows[] = {
     {"count_plans", count_plans, 0, NULL},
     {"grade", grade, 0, NULL},
     {"monthly_price", monthly_price, 0, NULL},
+    {"count_plans_untallied", count_plans_untallied, 0, NULL},
+    {"grade_untallied", grade_untallied, 0, NULL},
+    {"monthly_price_untallied", monthly_price_untallied, 0, NULL},
     {"read_file", read_file, 0, NULL},
     {"write_file", write_file, 0, NULL},
     {"file_first_plan", file_first_plan, 0, NULL},
@@ -213,6 +219,9 @@ static void measure_counts(const bench_family *family)
     require(measure(count_plans, family) == ROTA_DONE, "the plans are counted");
     require(measure(grade, family) == none, "the grade is given with a plan");
     require(measure(monthly_price, family) == none, "the price is given with a plan");
+    require(measure(count_plans_untallied, family) == ROTA_DONE, "the plans are counted without a tally");
+    require(measure(grade_untallied, family) == none, "the grade is given with a plan");
+    require(measure(monthly_price_untallied, family) == none, "the price is given with a plan");
 }
 
 static void measure_family(const bench_family *family)

@@ -100,8 +100,12 @@ static void most_counted(void)
     EXPECT(count.code == ROTA_TALLY_TOO_SHORT && count.count == 0);
     count = rota_count_plans(ROTA_MOST_COUNTED, opens, ROTA_MOST_COUNTED, none, ROTA_MOST_COUNTED, tally, words);
     EXPECT(count.code == ROTA_DONE && count.count == 1);
+    count = rota_count_plans_untallied(ROTA_MOST_COUNTED, opens, ROTA_MOST_COUNTED, none, ROTA_MOST_COUNTED);
+    EXPECT(count.code == ROTA_DONE && count.count == 1);
     opens[ROTA_MOST_COUNTED] = (uint64_t)1 << ROTA_MOST_COUNTED;
     count = rota_count_plans(ROTA_MOST_COUNTED + 1, opens, ROTA_MOST_COUNTED + 1, none, ROTA_MOST_COUNTED + 1, tally, 2 * words);
+    EXPECT(count.code == ROTA_TOO_MANY_TO_COUNT && count.count == 0);
+    count = rota_count_plans_untallied(ROTA_MOST_COUNTED + 1, opens, ROTA_MOST_COUNTED + 1, none, ROTA_MOST_COUNTED + 1);
     EXPECT(count.code == ROTA_TOO_MANY_TO_COUNT && count.count == 0);
     free(tally);
 }

@@ -199,6 +199,65 @@ static void tables(void)
     EXPECT(price.code == ROTA_DONE && price.cents == 350 * 100 && price.items == 0 && price.shortage == 0);
 }
 
+/* Count, grade and price of open words without callouts, with no tally. */
+#define OPEN(n, words) n, words, n, none, n
+
+static void without_a_tally(void)
+{
+    /* The calls go through pointers of the declared types; another type would not compile. */
+    rota_count_answer (*const counted)(size_t, const uint64_t *, size_t, const uint64_t *, size_t) = rota_count_plans_untallied;
+    rota_grade_answer (*const graded)(size_t, const uint64_t *, size_t, const uint64_t *, size_t) = rota_grade_untallied;
+    rota_price_answer (*const priced)(size_t, const uint64_t *, size_t, const uint64_t *, size_t, uint64_t) = rota_monthly_price_untallied;
+    static const uint64_t brittle[3] = {7, 6, 6}, short_opens[4] = {1, 1, 2, 14}, none[21] = {0};
+    uint64_t all[21];
+    rota_count_answer count;
+    rota_grade_answer grade;
+    rota_price_answer price;
+
+    count = counted(T);
+    EXPECT(count.code == ROTA_DONE && count.count == 3);
+    grade = graded(T);
+    EXPECT(grade.code == ROTA_DONE && grade.grade == 3 && grade.items == 0 && grade.shortage == 0);
+    price = priced(T, 100);
+    EXPECT(price.code == ROTA_DONE && price.cents == 33000 && price.items == 0 && price.shortage == 0);
+    price = priced(T, 0);
+    EXPECT(price.code == ROTA_BAD_FLEET && price.cents == 0 && price.items == 0 && price.shortage == 0);
+    EXPECT(priced(T, 10000).code == ROTA_DONE && priced(T, 10001).code == ROTA_BAD_FLEET);
+    grade = graded(OPEN(3, brittle));
+    EXPECT(grade.code == ROTA_DONE && grade.grade == 2 && grade.items == 0 && grade.shortage == 0);
+    price = priced(OPEN(3, brittle), 100);
+    EXPECT(price.code == ROTA_DONE && price.cents == 350 * 100 && price.items == 0 && price.shortage == 0);
+
+    /* No plan: a count of 0, and 9 for grade and price. */
+    count = counted(OPEN(4, short_opens));
+    EXPECT(count.code == ROTA_DONE && count.count == 0);
+    grade = graded(OPEN(4, short_opens));
+    EXPECT(grade.code == ROTA_NO_PLAN && grade.grade == 0 && grade.items == 3 && grade.shortage == 1);
+    price = priced(OPEN(4, short_opens), 100);
+    EXPECT(price.code == ROTA_NO_PLAN && price.cents == 0 && price.items == 3 && price.shortage == 1);
+    EXPECT(priced(OPEN(4, short_opens), 0).code == ROTA_BAD_FLEET);
+
+    /* Every cell of 20 items open: 20! plans. 21 items are too many, whatever the fleet. */
+    for (unsigned i = 0; i < 21; i++) {
+        all[i] = ((uint64_t)1 << 20) - 1;
+    }
+    count = counted(OPEN(20, all));
+    EXPECT(count.code == ROTA_DONE && count.count == UINT64_C(2432902008176640000));
+    grade = graded(OPEN(20, all));
+    EXPECT(grade.code == ROTA_DONE && grade.grade == 5);
+    count = counted(OPEN(21, all));
+    EXPECT(count.code == ROTA_TOO_MANY_TO_COUNT && count.count == 0);
+    grade = graded(OPEN(21, all));
+    EXPECT(grade.code == ROTA_TOO_MANY_TO_COUNT && grade.grade == 0 && grade.items == 0 && grade.shortage == 0);
+    price = priced(OPEN(21, all), 0);
+    EXPECT(price.code == ROTA_TOO_MANY_TO_COUNT && price.cents == 0 && price.items == 0 && price.shortage == 0);
+
+    EXPECT(counted(0, OPENS, 3, CALLOUTS, 3).code == ROTA_BAD_N);
+    EXPECT(graded(2, OPENS, 3, CALLOUTS, 3).code == ROTA_BAD_TABLE_LENGTH);
+    EXPECT(priced(2, OPENS, 2, CALLOUTS, 2, 0).code == ROTA_SLOT_OUTSIDE);
+    EXPECT(counted(3, CALLOUTS, 3, OPENS, 3).code == ROTA_CALLOUT_NOT_OPEN);
+}
+
 static void files(void)
 {
     uint8_t file[ROTA_BLOCK_BYTES + 1], buffer[ROTA_MOST_ITEMS + 1];
@@ -244,6 +303,7 @@ int main(void)
     cells();
     sheets();
     tables();
+    without_a_tally();
     files();
     constants();
     texts();

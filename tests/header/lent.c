@@ -31,6 +31,12 @@ static void no_tables(void)
     EXPECT(rota_count_plans(0, NO_TABLES, NULL, 0).code == ROTA_BAD_N);
     EXPECT(rota_grade(0, NO_TABLES, NULL, 0).code == ROTA_BAD_N);
     EXPECT(rota_monthly_price(0, NO_TABLES, 0, NULL, 0).code == ROTA_BAD_N);
+    EXPECT(rota_count_plans_untallied(0, NO_TABLES).code == ROTA_BAD_N);
+    EXPECT(rota_count_plans_untallied(3, NO_TABLES).code == ROTA_BAD_TABLE_LENGTH);
+    EXPECT(rota_grade_untallied(0, NO_TABLES).code == ROTA_BAD_N);
+    EXPECT(rota_grade_untallied(3, NO_TABLES).code == ROTA_BAD_TABLE_LENGTH);
+    EXPECT(rota_monthly_price_untallied(0, NO_TABLES, 0).code == ROTA_BAD_N);
+    EXPECT(rota_monthly_price_untallied(3, NO_TABLES, 0).code == ROTA_BAD_TABLE_LENGTH);
     EXPECT(rota_write_file(0, NO_TABLES, NULL, 0).code == ROTA_BAD_N);
 }
 
@@ -94,6 +100,9 @@ void overlapping_inputs(void)
     EXPECT(rota_grade(TWICE, tally, 8).grade == 3);
     price = rota_monthly_price(TWICE, 100, tally, 8);
     EXPECT(price.code == ROTA_DONE && price.cents == 285 * 100 + 3 * 4500);
+    EXPECT(rota_count_plans_untallied(TWICE).count == 3);
+    EXPECT(rota_grade_untallied(TWICE).grade == 3);
+    EXPECT(rota_monthly_price_untallied(TWICE, 100).cents == 285 * 100 + 3 * 4500);
     EXPECT(rota_write_file(TWICE, file, sizeof file).code == ROTA_DONE);
     EXPECT(rota_read_file(file, sizeof file, opens, 3, callouts, 3).n == 3);
     EXPECT(memcmp(opens, OPENS, sizeof opens) == 0 && memcmp(callouts, OPENS, sizeof callouts) == 0);
@@ -107,4 +116,7 @@ void overlapping_inputs(void)
     EXPECT(rota_grade(3, words, 3, words + 1, 3, tally, 8).grade == 2);
     price = rota_monthly_price(3, words, 3, words + 1, 3, 100, tally, 8);
     EXPECT(price.code == ROTA_DONE && price.cents == 350 * 100 + 4500);
+    EXPECT(rota_count_plans_untallied(3, words, 3, words + 1, 3).count == 2);
+    EXPECT(rota_grade_untallied(3, words, 3, words + 1, 3).grade == 2);
+    EXPECT(rota_monthly_price_untallied(3, words, 3, words + 1, 3, 100).cents == 350 * 100 + 4500);
 }

@@ -165,6 +165,14 @@ class Asked:
             expect(held.endswith(FILL * 16), text, "- further words of the tally are changed")
         return 1
 
+    def untallied(self, text, call, tallied, name):
+        """The answer of a call without a tally, which is also that of the call with one."""
+        expected = Expected(text)
+        agrees(call, expected.code, text, **(expected.brings if expected.code else {name: number(text)}))
+        expect(not call.changed, text, "- changed:", call.changed)
+        expect((call.code, call.numbers) == (tallied.code, tallied.numbers), text, "- with a tally the library answers", tallied.code, tallied.numbers)
+        return 2
+
     def file(self, rota, text):
         (size,) = match("# bytes", text)
         answer = self.library.write_file(rota, number(size) + 9)
@@ -184,8 +192,15 @@ class Asked:
         if asked == "grade":
             return self.number_of(rota, text, self.library.grade(rota, tally), "grade")
         if words[0] == "price,":
-            (vehicles,) = match("price, # vehicles", asked)
-            return self.number_of(rota, text, self.library.monthly_price(rota, number(vehicles), tally), "cents")
+            vehicles, without = match("price, # vehicles(, no tally)?", asked)
+            tallied = self.library.monthly_price(rota, number(vehicles), tally)
+            if without:
+                return self.untallied(text, self.library.monthly_price_untallied(rota, number(vehicles)), tallied, "cents")
+            return self.number_of(rota, text, tallied, "cents")
+        if asked == "count, no tally":
+            return self.untallied(text, self.library.count_plans_untallied(rota), self.library.count_plans(rota, tally), "count")
+        if asked == "grade, no tally":
+            return self.untallied(text, self.library.grade_untallied(rota), self.library.grade(rota, tally), "grade")
         if words[0] == "fewest":
             return self.fewest(rota, *match("fewest callouts, cap #", asked), text)
         if words[0] == "next":

@@ -147,6 +147,18 @@ class Library:
         return self.on_tables("rota_monthly_price", PriceAnswer, rota, [ctypes.c_uint64(vehicles), (tally, 8)], [("tally", tally)])
 
     @functools.lru_cache(maxsize=None)
+    def count_plans_untallied(self, rota):
+        return self.on_tables("rota_count_plans_untallied", CountAnswer, rota)
+
+    @functools.lru_cache(maxsize=None)
+    def grade_untallied(self, rota):
+        return self.on_tables("rota_grade_untallied", GradeAnswer, rota)
+
+    @functools.lru_cache(maxsize=None)
+    def monthly_price_untallied(self, rota, vehicles):
+        return self.on_tables("rota_monthly_price_untallied", PriceAnswer, rota, [ctypes.c_uint64(vehicles)])
+
+    @functools.lru_cache(maxsize=None)
     def write_file(self, rota, places):
         file = Lent(FILL * places)
         return self.on_tables("rota_write_file", WriteAnswer, rota, [(file, 1)], [("file", file)])

@@ -34,6 +34,15 @@ SENTENCES = (
     ("Count", "For n up to #; above, #. A count of # is a success.", "most-counted too-many no-plans"),
     ("Count", "whether n is above #", "most-counted"),
     ("Tally", "at least # to the power n of them (else #)", "tally-base short-tally"),
+    ("Without a tally", "if the tally is long enough, a count of # included", "untallied-none"),
+    ("Without a tally", "but for #: the count tests # to #, the grade # besides, the price # and #. None gives #.",
+     "short-tally bad-n too-many-untallied no-plan-untallied bad-fleet no-plan-untallied short-tally"),
+    ("Without a tally", "modulo # to the power #, because no count up to # items reaches that", "tally-base count most-counted"),
+    ("Without a tally", "the greatest is that of [# items with every cell open]", "most-counted"),
+    ("Without a tally", "The last column adds up to #, and T has # plans.", "untallied-of-t plans-of-t"),
+    ("Without a tally", "The last product, #, is the number of ways", "ways-of-t"),
+    ("Without a tally", "and # are left.", "untallied-of-t"),
+    ("Without a tally", "A tally of # items has # words, which are # MiB", "most-counted words-of-tally mib-of-tally"),
     ("Lister", "the first plan, or #, and never #", "no-plan not-a-plan"),
     ("Lister", ": # if that is no complete plan of this rota, # if none follows", "not-a-plan no-further"),
     ("Lister", "each further call gives #", "no-further"),
@@ -122,6 +131,19 @@ def price(doc, library, t):
             "rate-of-t": more - cents, "callouts-of-t": library.fewest_callouts(t, 64).numbers["callouts"], "cents-of-t": cents}
 
 
+def untallied(library, t):
+    """What the calls without a tally answer, and the numbers that go with Ryser's formula for T and with a tally of the most items."""
+    none = plain([0, 3])
+    most = least(lambda n: n > 0 and library.count_plans_untallied(diagonal(n)).code != 0) - 1
+    ways = 1
+    for word in t[1]:
+        ways *= len(ones(word))
+    words = least(lambda n: library.count_plans(diagonal(1), n).code == 0) ** most
+    return {"untallied-none": library.count_plans_untallied(none).numbers["count"], "too-many-untallied": library.count_plans_untallied(diagonal(21)).code,
+            "no-plan-untallied": library.grade_untallied(none).code, "bad-fleet": library.monthly_price_untallied(t, 0).code,
+            "untallied-of-t": library.count_plans_untallied(t).numbers["count"], "ways-of-t": ways, "words-of-tally": words, "mib-of-tally": words * 8 >> 20}
+
+
 def ones(word):
     return [slot for slot in range(64) if word >> slot & 1]
 
@@ -191,8 +213,9 @@ def prose(doc, library, program, header, places=None):
         declared = page.read()
     (bits,) = set(re.findall(r"uint(\d+)_t cap\b", declared))
     expect(re.search(r"rota_cell_plan\([^;]*\bsize_t item,\s+size_t slot\);", declared), "a cell's item or slot is no size_t")
-    known = {"cap": int(bits), "size": 8 * ctypes.sizeof(ctypes.c_size_t), **codes(library, t), **price(doc, library, t), **brittle(doc, library, t),
-             **figures(library, program, t)}
+    (counted,) = re.findall(r"uint(\d+)_t count;", declared)
+    known = {"cap": int(bits), "size": 8 * ctypes.sizeof(ctypes.c_size_t), "count": int(counted), **codes(library, t), **price(doc, library, t),
+             **brittle(doc, library, t), **untallied(library, t), **figures(library, program, t)}
     for title, sentence, names in SENTENCES:
         found, wanted = numbers_in(doc, title, sentence), []
         for name in names.split():

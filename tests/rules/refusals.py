@@ -38,6 +38,9 @@ TABLES = {
     "`rota_count_plans`": lambda library, x: library.count_plans(x.rota, x.tally),
     "`rota_grade`": lambda library, x: library.grade(x.rota, x.tally),
     "`rota_monthly_price`": lambda library, x: library.monthly_price(x.rota, x.vehicles, x.tally),
+    "`rota_count_plans_untallied`": lambda library, x: library.count_plans_untallied(x.rota),
+    "`rota_grade_untallied`": lambda library, x: library.grade_untallied(x.rota),
+    "`rota_monthly_price_untallied`": lambda library, x: library.monthly_price_untallied(x.rota, x.vehicles),
     "`rota_write_file`": lambda library, x: library.write_file(x.rota, x.bytes),
 }
 FILES = {

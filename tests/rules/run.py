@@ -19,14 +19,16 @@ import prose
 import refusals
 import self_check
 import sheets
+import untallied
 from document import Document, Wrong
 from library import Library
 
 # How many examples of each kind the document has. Another number fails.
 EXAMPLES = {
-    "example lines": 93,
+    "example lines": 108,
     "columns of a sheet": 7,
     "lines of sheets": 16,
+    "sets of Ryser's formula": 8,
     "lister calls": 9,
     "grade rules": 5,
     "graded rotas": 7,
@@ -36,11 +38,11 @@ EXAMPLES = {
     "lines of T's dump": 5,
     "listings": 6,
     "refusals in C": 15,
-    "pairs of tests": 274,
-    "calls": 15,
-    "sentences with numbers": 59,
-    "words": 22,
-    "rules linked": 35,
+    "pairs of tests": 320,
+    "calls": 18,
+    "sentences with numbers": 67,
+    "words": 23,
+    "rules linked": 36,
 }
 
 
@@ -57,6 +59,7 @@ class Rules:
             "example lines": lambda doc: examples.lines(doc, library, files.Layout(doc).file_of, sheets.Columns(doc).sheet_of),
             "columns of a sheet": lambda doc: sheets.columns(doc, library),
             "lines of sheets": lambda doc: sheets.shown(doc, library),
+            "sets of Ryser's formula": lambda doc: untallied.formula(doc, library),
             "lister calls": lambda doc: examples.lister(doc, library),
             "grade rules": lambda doc: pricing.grades(doc, library),
             "graded rotas": lambda doc: pricing.graded(doc, library),

@@ -1,5 +1,5 @@
 """Shows that the test can fail: each line that it reads is changed in a copy of the document, one number or column of a sheet at a time, and the copy must be
-refused. So must rule 3 of the grade with open slots for usable ones.
+refused. So must rule 3 of the grade with open slots for usable ones, and Ryser's formula with another sign.
 
 A change of what an example asks may give an example that is true as well; so may none of an answer or of a rule.
 """
@@ -11,7 +11,7 @@ from document import NUMBER, Document, Wrong
 # The columns of a table that ask; those behind them answer. In all other tables, and in a row that begins with a number, every number is a rule's.
 ASKING = {"Worked rotas": 2, "Lists of lister calls": 1, "Listing program": 1, "Grade": 1}
 # How many changes of what is asked leave the example true. Another number fails.
-STILL_TRUE = 90
+STILL_TRUE = 98
 
 
 def asked(title, line):
@@ -24,9 +24,11 @@ def asked(title, line):
 
 def changes(line):
     """The line with one number changed, for each of its numbers, and the number's place; in the dump bytes and places too, which are hexadecimal, and in a
-    sheet each column. In rule 3 of the grade the kind of slot."""
+    sheet each column. In rule 3 of the grade the kind of slot, in Ryser's formula each sign."""
     if "just one usable slot" in line:
         yield line.index("usable"), line.replace("usable", "open")
+    for found in re.finditer(r"(?<=\| )[+−](?= \|)|(?<=\| )−(?=\d)", line):
+        yield found.start(), line[:found.start()] + ("+" if found.group() == "−" else "−") + line[found.end():]
     for at in range(4, len(line)) if re.match(r"    .*\$$", line) else ():
         yield at, line[:at] + ("C" if line[at] == " " else " ") + line[at + 1:]
     dump = re.match("    [0-9a-f]{3}  ", line)
@@ -109,5 +111,5 @@ def self_check(rules, examples, text, read):
             raise Wrong("the test does not refuse what it does not read: " + more[-1])
     if true != STILL_TRUE:
         raise Wrong("%d changes of what is asked leave an example true, and there should be %d" % (true, STILL_TRUE))
-    print("rules: self-check: %d changes of a number, a column, an order or rule 3's slots; %d in what is asked leave the example true, all others are refused"
-          % (tried, true))
+    print("rules: self-check: %d changes of a number, a sign, a column, an order or rule 3's slots; %d in what is asked leave the example true, "
+          "all others are refused" % (tried, true))

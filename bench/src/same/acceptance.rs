@@ -1,5 +1,5 @@
 //! Refusals 1 to 7: whether two tables are accepted as a rota, and whether its plans can be counted and a fleet priced. Each test
-//! stands alone; `count_code` and `price_code` make those of a call in their order.
+//! stands alone; the last four make those of a call in their order.
 
 use super::words;
 
@@ -74,17 +74,31 @@ pub fn fleet_code(vehicles: u64) -> u32 {
     0
 }
 
+// 1 to 5 or 0.
+pub fn sized_code(n: usize, m: usize, opens: &[u64], callouts: &[u64]) -> u32 {
+    let code = table_code(n, m, opens, callouts);
+    if code != 0 {
+        return code;
+    }
+    size_code(m)
+}
+
 // 1 to 6 or 0, for a tally of so many words.
 pub fn count_code(n: usize, m: usize, opens: &[u64], callouts: &[u64], tally: usize) -> u32 {
-    let table = table_code(n, m, opens, callouts);
-    if table != 0 {
-        return table;
-    }
-    let size = size_code(m);
-    if size != 0 {
-        return size;
+    let code = sized_code(n, m, opens, callouts);
+    if code != 0 {
+        return code;
     }
     tally_code(m, tally)
+}
+
+// 1 to 5, 7 or 0.
+pub fn untallied_price_code(n: usize, m: usize, opens: &[u64], callouts: &[u64], vehicles: u64) -> u32 {
+    let code = sized_code(n, m, opens, callouts);
+    if code != 0 {
+        return code;
+    }
+    fleet_code(vehicles)
 }
 
 // 1 to 7 or 0.

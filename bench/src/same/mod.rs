@@ -18,6 +18,7 @@ mod next;
 mod permanent;
 mod plan;
 pub mod rota;
+mod ryser;
 mod sheet;
 mod tariff;
 mod words;

@@ -1,5 +1,5 @@
 // Refusals 1 to 7: whether two tables are accepted as a rota, and whether its plans can be counted and a fleet priced. Each test
-// stands alone; `sized_code`, `count_code` and `price_code` make those of a call in their order.
+// stands alone; the last four make those of a call in their order.
 ghost use mathlib.Core.Path.{_≡_};
 ghost use mathlib.Core.Bool.{cond};
 ghost use Prim.Native.Nat.{_≤_};
@@ -8,7 +8,7 @@ ghost use lib.ListN.{length};
 ghost use Rattle.model.specs.Rota.{cellCode, tableCode};
 ghost use Rattle.model.specs.Refusal.{sizeCode, tallyCode, fleetCode};
 ghost use Rattle.model.specs.CountAnswers.{sizedCode, countCode};
-ghost use Rattle.model.specs.PriceAnswers.{priceCode};
+ghost use Rattle.model.specs.PriceAnswers.{untalliedPriceCode, priceCode};
 
 // The first refusal: 3 for open bits beyond the slots, then 4 for callout bits on closed cells.
 fn first_code(beyond: u64, closed: u64) -> u32
@@ -119,6 +119,24 @@ pub fn count_code(n: usize, m: usize, opens: &[u64], callouts: &[u64], tally: us
         return code;
     }
     tally_code(m, tally)
+}
+
+// 1 to 5, 7 or 0.
+pub fn untallied_price_code(
+    n: usize,
+    m: usize,
+    opens: &[u64],
+    callouts: &[u64],
+    vehicles: u64,
+) -> u32
+    requires { ⌜ (n ≤ 64 → m ≤ 64) ⌝ }
+    ensures { λ r. ⌜ r ≡ untalliedPriceCode n m (now (opens .entry)) (now (callouts .entry)) vehicles ⌝ }
+{
+    let code = sized_code(n, m, opens, callouts);
+    if code != 0 {
+        return code;
+    }
+    fleet_code(vehicles)
 }
 
 // 1 to 7 or 0.

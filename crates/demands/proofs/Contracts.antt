@@ -17,11 +17,12 @@ use Rattle.model.specs.PlanAnswers.{firstAnswer, nextAnswer, fewestAnswer, cell
 use Rattle.model.specs.Lister.{listerAnswer, listerAfter}
 use Rattle.model.specs.SheetAnswers.{sheetCode, sheetAfter}
 use Rattle.model.specs.UsableAnswers.{usableCode, usableAfter}
-use Rattle.model.specs.CountAnswers.{countAnswer, countTally}
-use Rattle.model.specs.PriceAnswers.{gradeAnswer, gradeTally, priceAnswer, priceTally}
+use Rattle.model.specs.CountAnswers.{untalliedCount, countAnswer, countTally}
+use Rattle.model.specs.PriceAnswers.{untalliedGrade, gradeAnswer, gradeTally, untalliedPrice, priceAnswer, priceTally}
 use Rattle.model.specs.FileAnswers.{readAnswer, readOpens, readCallouts, writeAnswer, writeFile, fileFirst, fileNext, fileFewest, bufferAfter}
 use Rattle.demands.specs.Calls.{ListCall, EachFirst, EachNext, EachFewest, EachCell, EachSheet, EachList, EachUsable, EachCount, EachGrade, EachPrice}
-use Rattle.demands.specs.Calls.{EachRead, EachWrite, EachFileFirst, EachFileNext, EachFileFewest, AskNothing}
+use Rattle.demands.specs.Calls.{EachUntalliedCount, EachUntalliedGrade, EachUntalliedPrice, EachRead, EachWrite, EachFileFirst, EachFileNext}
+use Rattle.demands.specs.Calls.{EachFileFewest, AskNothing}
 
 pub first-each : (Q : ℕ → List ℕ → List ℕ → PlanAnswer → Type 0)
     → ((n : ℕ) (opens callouts : List ℕ) → Q n opens callouts (firstAnswer n n opens callouts)) → EachFirst Q
@@ -84,6 +85,21 @@ pub price-each : (Q : ℕ → List ℕ → List ℕ → ℕ → List ℕ → Pri
 unfolding EachPrice
 price-each Q f κs a r s l = subst₂ (Q _ _ _ _ _) (sym (l .0)) (sym (l .1)) (f _ _ _ _ _)
 
+pub untallied-count-each : (Q : ℕ → List ℕ → List ℕ → CountAnswer → Type 0)
+    → ((n : ℕ) (opens callouts : List ℕ) → Q n opens callouts (untalliedCount n n opens callouts)) → EachUntalliedCount Q
+unfolding EachUntalliedCount
+untallied-count-each Q f κs a r s l = subst⁻¹ (Q _ _ _) l (f _ _ _)
+
+pub untallied-grade-each : (Q : ℕ → List ℕ → List ℕ → GradeAnswer → Type 0)
+    → ((n : ℕ) (opens callouts : List ℕ) → Q n opens callouts (untalliedGrade n n opens callouts)) → EachUntalliedGrade Q
+unfolding EachUntalliedGrade
+untallied-grade-each Q f κs a r s l = subst⁻¹ (Q _ _ _) l (f _ _ _)
+
+pub untallied-price-each : (Q : ℕ → List ℕ → List ℕ → ℕ → PriceAnswer → Type 0)
+    → ((n : ℕ) (opens callouts : List ℕ) (vehicles : ℕ) → Q n opens callouts vehicles (untalliedPrice n n opens callouts vehicles)) → EachUntalliedPrice Q
+unfolding EachUntalliedPrice
+untallied-price-each Q f κs a r s l = subst⁻¹ (Q _ _ _ _) l (f _ _ _ _)
+
 pub read-each : {Q : List ℕ → List ℕ → List ℕ → ReadAnswer → List ℕ → List ℕ → Type 0}
     → ((file o k : List ℕ) (r : ReadAnswer) (o′ k′ : List ℕ) → r ≡ readAnswer Edition.One file (length o) (length k) → o′ ≡ readOpens Edition.One file o k
     → k′ ≡ readCallouts Edition.One file o k → Q file o k r o′ k′) → EachRead Q
@@ -127,6 +143,9 @@ ask-nothing =
       count-plans = λ κs a. tt;
       grade = λ κs a. tt;
       monthly-price = λ κs a. tt;
+      count-plans-untallied = λ κs a. tt;
+      grade-untallied = λ κs a. tt;
+      monthly-price-untallied = λ κs a. tt;
       read-file = λ κs a. tt;
       write-file = λ κs a. tt;
       file-first-plan = λ κs a. tt;

@@ -9,30 +9,34 @@ use Rattle.model.specs.declared.Plan.{Plan}
 use Rattle.model.specs.declared.PlanAnswer.{PlanAnswer}
 use Rattle.model.specs.declared.ReadAnswer.{ReadAnswer}
 use Rattle.model.specs.declared.WriteAnswer.{WriteAnswer}
-use Rattle.model.specs.Refusal.{orElse, unless, written, roomCode}
+use Rattle.model.specs.Refusal.{orElse, unless, written, fleetCode, roomCode}
 use Rattle.model.specs.Rota.{tableCode}
 use Rattle.model.specs.CellPlans.{cellPlan}
+use Rattle.model.specs.Count.{count}
 use Rattle.model.specs.declared.Edition.{Edition}
 use Rattle.model.specs.File.{blocksFor, fileCode, itemsIn, slotsIn, opensIn, calloutsIn}
 use Rattle.model.specs.PlanAnswers.{given, refused, firstAnswer, nextAnswer, fewestAnswer, cellAnswer}
 use Rattle.model.specs.Lister.{listerAnswer, listerAfter}
 use Rattle.model.specs.SheetAnswers.{sheetCode, sheetAfter}
 use Rattle.model.specs.UsableAnswers.{usableAfter}
-use Rattle.model.specs.CountAnswers.{countUnless, sizedCode, countCode, countAnswer, countTally}
-use Rattle.model.specs.PriceAnswers.{gradeAnswer, gradeTally, priceCode, priceAnswer, priceTally}
+use Rattle.model.specs.CountAnswers.{countUnless, sizedCode, untalliedCount, countCode, countAnswer, countTally}
+use Rattle.model.specs.PriceAnswers.{priceBy, untalliedGrade, gradeAnswer, gradeTally, untalliedPriceCode, untalliedPrice, priceCode, priceAnswer, priceTally}
 use Rattle.model.specs.FileAnswers.{readRefused, readCode, readAnswer, readOpens, readCallouts, writeRefused, writeCode, writeAnswer, writeFile, planFileCode}
 use Rattle.model.specs.FileAnswers.{onFile, bufferAfter}
 use Rattle.model.proofs.Refusals.{or-none, or-assoc, or-later, nothing-written}
 use Rattle.model.proofs.Codes.{first-code, next-code, fewest-code, cell-code, count-code, grade-code, price-code, read-code, write-code, on-file-code}
+use Rattle.model.proofs.Codes.{untallied-count-code, untallied-grade-code, untallied-price-code}
 use Rattle.model.proofs.Files.{accepted-file}
 use Rattle.model.proofs.Listing.{refused-keeps}
 use Rattle.demands.specs.Tests.{Test, FirstOf, test5, test6, test7, test8, test9, test10, test11, test15, tables, fileTests}
 use Rattle.demands.specs.Demand1.{Refused, Demand1}
 use Rattle.demands.proofs.Contracts.{first-each, next-each, fewest-each, cell-each, sheet-each, list-each, usable-each, count-each, grade-each}
-use Rattle.demands.proofs.Contracts.{price-each, read-each, write-each, file-first-each, file-next-each, file-fewest-each, ask-nothing}
+use Rattle.demands.proofs.Contracts.{price-each, untallied-count-each, untallied-grade-each, untallied-price-each, read-each, write-each}
+use Rattle.demands.proofs.Contracts.{file-first-each, file-next-each, file-fewest-each, ask-nothing}
 use Rattle.demands.proofs.TestLaws.{none-fits, tables-first, file-first, either, equals, less, test-first, room-first}
 use Rattle.demands.proofs.Definitions.{first-tests, plan-first, next-tests, fewest-tests, grade-tests, price-tests}
-use Rattle.demands.proofs.Outcomes.{first-says, next-says, list-says, fewest-says, count-tested, price-tested, grade-says, price-says}
+use Rattle.demands.proofs.Outcomes.{first-says, next-says, list-says, fewest-says, sized-tested, untallied-price-tested, count-tested, price-tested}
+use Rattle.demands.proofs.Outcomes.{grade-says, price-says}
 
 -- ---- the numbers, in their order
 
@@ -81,7 +85,25 @@ module _ (n : ℕ) (opens callouts : List ℕ) where
   sized others later f =
       simp or-assoc (tables-first n opens callouts _ _ (λ ok. test-first (test5 n) 4 _ refl (less 20 n) others later (λ s. f ok)))
 
-  -- those and the tally's, then others
+  pub untallied-count-number : FirstOf (tables n opens callouts (test5 n ∷ [])) (untalliedCount n n opens callouts .code)
+  untallied-count-number = last _ _ _ (sized [] 0 (λ ok. none-fits)) (untallied-count-code n n opens callouts)
+
+  pub untallied-grade-number : FirstOf (tables n opens callouts (test5 n ∷ test9 opens ∷ [])) (untalliedGrade n n opens callouts .code)
+  untallied-grade-number = rw (untallied-grade-code n n opens callouts) (sized _ _ (λ ok. grade-tests n n opens callouts ok _))
+
+  -- 7, and without a plan 9
+  fleet-says : (vehicles cents : ℕ) → tableCode n n opens callouts ≡ 0
+      → FirstOf (test7 vehicles ∷ test9 opens ∷ []) (orElse (fleetCode vehicles) (priceBy opens (count n opens) cents .code))
+  fleet-says vehicles cents ok =
+      test-first (test7 vehicles) 6 _ refl (either _ _ _ _ (equals vehicles 0) (less 10000 vehicles)) _ _ (λ v. price-tests n n opens callouts ok cents)
+
+  pub untallied-price-number : (vehicles : ℕ)
+      → FirstOf (tables n opens callouts (test5 n ∷ test7 vehicles ∷ test9 opens ∷ [])) (untalliedPrice n n opens callouts vehicles .code)
+  unfolding untalliedPriceCode
+  untallied-price-number vehicles =
+      rw (untallied-price-code n n opens callouts vehicles, or-assoc (sizedCode n n opens callouts)) (sized _ _ (fleet-says vehicles _))
+
+  -- the tests up to 6, then others
   counted : (tally : List ℕ) (others : List Test) (later : ℕ) → (tableCode n n opens callouts ≡ 0 → FirstOf others later)
       → FirstOf (tables n opens callouts (test5 n ∷ test6 n tally ∷ others)) (orElse (countCode n n opens callouts (length tally)) later)
   unfolding countCode
@@ -102,8 +124,7 @@ module _ (n : ℕ) (opens callouts : List ℕ) where
   unfolding priceCode
   price-number vehicles tally =
       rw (price-code n n opens callouts (length tally) vehicles, or-assoc (countCode n n opens callouts (length tally)))
-      (counted tally _ _ (λ ok.
-      test-first (test7 vehicles) 6 _ refl (either _ _ _ _ (equals vehicles 0) (less 10000 vehicles)) _ _ (λ v. price-tests n n opens callouts ok _)))
+      (counted tally _ _ (fleet-says vehicles _))
 
 module _ (file : List ℕ) where
   abbrev n : ℕ
@@ -162,7 +183,8 @@ kept r code values old new e q d = q ∙ sym (nothing-written r code d (sym e) v
 -- ---- the theorem
 
 pub demand1 : Demand1
-unfolding listerAfter sheetAfter usableAfter countTally gradeTally priceTally readOpens readCallouts writeCode writeFile bufferAfter
+unfolding listerAfter sheetAfter usableAfter countTally gradeTally priceTally untalliedCount untalliedGrade untalliedPrice
+    readOpens readCallouts writeCode writeFile bufferAfter
 demand1 =
     record {
       anything = ask-nothing;
@@ -176,6 +198,9 @@ demand1 =
       count-code = count-each _ count-number;
       grade-code = grade-each _ grade-number;
       price-code = price-each _ price-number;
+      untallied-count-code = untallied-count-each _ untallied-count-number;
+      untallied-grade-code = untallied-grade-each _ untallied-grade-number;
+      untallied-price-code = untallied-price-each _ untallied-price-number;
       read-code = read-each (λ file o k r o′ k′ e w x. by _ _ _ (ap (λ x. x .code) e) (read-says file o k));
       write-code = write-each (λ n o k old r new e w.
           by _ _ _ (ap (λ x. x .code) e ∙ write-code n n o k (length old)) (room-says n o k old (512 * blocksFor n)));
@@ -198,6 +223,9 @@ demand1 =
       count-refused = count-each _ (λ n o k tally. zero-count (countCode n n o k (length tally)) n o);
       grade-refused = grade-each _ (λ n o k tally. grade-says n o k (count-tested n o k (length tally)) .0);
       price-refused = price-each _ (λ n o k v tally. price-says n o k (price-tested n o k v (length tally)) v .0);
+      untallied-count-refused = untallied-count-each _ (λ n o k. zero-count (sizedCode n n o k) n o);
+      untallied-grade-refused = untallied-grade-each _ (λ n o k. grade-says n o k (sized-tested n o k) .0);
+      untallied-price-refused = untallied-price-each _ (λ n o k v. price-says n o k (untallied-price-tested n o k v) v .0);
       read-refused = read-each (λ file o k r o′ k′ e w x. subst (λ (x : ReadAnswer). x .code ≢ 0 → x .n ≡ 0) (sym e) (zero-items file (length o) (length k)));
       write-refused = write-each (λ n o k old r new e w. subst (λ (x : WriteAnswer). x .code ≢ 0 → x .bytes ≡ 0) (sym e) (zero-bytes n o k (length old)));
       list-keeps = list-each _ (λ e n o k. refused-keeps e (listerAnswer e n n o k));

@@ -19,8 +19,8 @@ use Rattle.model.specs.declared.Edition.{Edition}
 use Rattle.model.specs.File.{itemsIn, slotsIn, opensIn, calloutsIn}
 use Rattle.model.specs.PlanAnswers.{refused, firstAnswer, nextAnswer, fewestAnswer}
 use Rattle.model.specs.UsableAnswers.{usableCode, usableAfter}
-use Rattle.model.specs.CountAnswers.{countUnless, countCode, countTally}
-use Rattle.model.specs.PriceAnswers.{gradeTally, priceTally}
+use Rattle.model.specs.CountAnswers.{countUnless, sizedCode, untalliedCount, countCode, countTally}
+use Rattle.model.specs.PriceAnswers.{untalliedGrade, gradeTally, untalliedPrice, priceTally}
 use Rattle.model.specs.FileAnswers.{readAnswer, readOpens, readCallouts, writeAnswer, writeFile}
 use Rattle.model.specs.FileAnswers.{planFileCode, onFile, bufferAfter}
 use Rattle.model.proofs.Refusals.{neither-refuses, accepted-answer, all-written}
@@ -31,9 +31,11 @@ use Rattle.model.proofs.Permanent.{permanent-is-count}
 use Rattle.model.proofs.RoundTrips.{items-read, write-passed, write-then-read, read-then-write}
 use Rattle.demands.specs.Demand2.{IsFirst, IsNext, IsFewestPlan, Demand2}
 use Rattle.demands.proofs.Contracts.{first-each, next-each, fewest-each, list-each, usable-each, count-each, grade-each, price-each, read-each}
-use Rattle.demands.proofs.Contracts.{write-each, file-first-each, file-next-each, file-fewest-each}
+use Rattle.demands.proofs.Contracts.{untallied-count-each, untallied-grade-each, untallied-price-each, write-each, file-first-each, file-next-each}
+use Rattle.demands.proofs.Contracts.{file-fewest-each}
 use Rattle.demands.proofs.Definitions.{usable-is, usable-words, front-at, further-kept, tallied-is}
-use Rattle.demands.proofs.Outcomes.{first-says, next-says, list-says, fewest-says, count-tested, price-tested, grade-says, price-says}
+use Rattle.demands.proofs.Outcomes.{first-says, next-says, list-says, fewest-says, sized-tested, untallied-price-tested, count-tested, price-tested}
+use Rattle.demands.proofs.Outcomes.{grade-says, price-says}
 
 -- ---- tables, tallies and buffers that a success wrote
 
@@ -97,7 +99,7 @@ module _ (file old : List ℕ) (call : PlanCall) (r : ℕ) (new : List ℕ) (e :
 -- ---- the theorem
 
 pub demand2 : Demand2
-unfolding usableCode usableAfter countTally gradeTally priceTally
+unfolding usableCode usableAfter untalliedCount countTally untalliedGrade gradeTally untalliedPrice priceTally
 demand2 =
     record {
       first = first-each _ (λ n o k. first-says n o k .on-success);
@@ -105,15 +107,20 @@ demand2 =
       fewest = fewest-each _ (λ n o k cap. fewest-says n o k cap .on-success);
       over = fewest-each _ (λ n o k cap. fewest-says n o k cap .on-11);
       count = count-each _ (λ n o k tally z. (counted (countCode n n o k (length tally)) n o z, tallied-is n o tally z));
+      untallied-count = untallied-count-each _ (λ n o k. counted (sizedCode n n o k) n o);
       usable = usable-each _ usable-holds;
       first-short = first-each _ (λ n o k. first-says n o k .on-9);
       list-short = list-each _ (λ e n o k. list-says n o k e .on-9);
       fewest-short = fewest-each _ (λ n o k cap. fewest-says n o k cap .on-9);
       grade-short = grade-each _ (λ n o k tally. grade-says n o k (count-tested n o k (length tally)) .2);
       price-short = price-each _ (λ n o k v tally. price-says n o k (price-tested n o k v (length tally)) v .2);
+      untallied-grade-short = untallied-grade-each _ (λ n o k. grade-says n o k (sized-tested n o k) .2);
+      untallied-price-short = untallied-price-each _ (λ n o k v. price-says n o k (untallied-price-tested n o k v) v .2);
       grade = grade-each _ (λ n o k tally z. let g = grade-says n o k (count-tested n o k (length tally)) .1 z in (g .0, tallied-is n o tally z, g .1, g .2));
       price = price-each _ (λ n o k v tally z.
           let g = price-says n o k (price-tested n o k v (length tally)) v .1 z in (g .0, tallied-is n o tally z, g .1, g .2));
+      untallied-grade = untallied-grade-each _ (λ n o k. grade-says n o k (sized-tested n o k) .1);
+      untallied-price = untallied-price-each _ (λ n o k v. price-says n o k (untallied-price-tested n o k v) v .1);
       file-first = file-first-each (λ file old r new e w z.
           let f = first-says (itemsIn file) (opensIn file) (calloutsIn file) .on-success (both file old firstAnswer r new e w z .1) .0 in
           in-buffer file old firstAnswer r new e w z (IsFirst (opensIn file)) (f .plan .sized) f);

@@ -14,7 +14,7 @@ use Rattle.model.specs.Plans.{plans}
 use Rattle.model.specs.Allowed.{allowedWords}
 use Rattle.model.specs.Count.{count}
 use Rattle.model.specs.PlanAnswers.{given}
-use Rattle.model.specs.CountAnswers.{countCode, countAnswer}
+use Rattle.model.specs.CountAnswers.{sizedCode, untalliedCount, countCode, countAnswer}
 use Rattle.model.specs.Lister.{listerAnswer, stored, listerAfter}
 use Rattle.model.specs.Listing.{Answered, Chained, IsListing}
 use Rattle.model.specs.UsableAnswers.{usableCode, usableAfter}
@@ -27,7 +27,7 @@ use Rattle.model.proofs.Permanent.{permanent-is-count}
 use Rattle.model.proofs.Listing.{plans-listed}
 use Rattle.demands.specs.Calls.{ListCall}
 use Rattle.demands.specs.Demand3.{entry, exit, ListedCall, made, Over, Kind, CallsFrom, ListingOf, Alone, Demand3}
-use Rattle.demands.proofs.Contracts.{list-met, usable-each, count-each}
+use Rattle.demands.proofs.Contracts.{list-met, usable-each, count-each, untallied-count-each}
 use Rattle.demands.proofs.Outcomes.{list-says}
 use Rattle.demands.proofs.Demand2.{counted, usable-front}
 
@@ -86,7 +86,7 @@ usable-written n opens n′ o k old sn so z = rw (← sn, ← so) (usable-front 
 -- ---- the theorem
 
 pub demand3 : (n : ℕ) (opens callouts : List ℕ) → tableCode n n opens callouts ≡ 0 → Demand3 n opens callouts
-unfolding count countAnswer
+unfolding count untalliedCount countAnswer
 demand3 n opens callouts ok =
     let L = plans-listed n n opens callouts ok in
     let F = few n n opens callouts ok in
@@ -101,6 +101,7 @@ demand3 n opens callouts ok =
       once = chain-at Before [] (plans n opens) (plans-rise n opens);
       counted = count-each _ (λ n′ o k tally sn so sk z.
           counted (countCode n′ n′ o k (length tally)) n′ o z ∙ permanent-is-count n′ o ∙ ap₂ count sn so);
+      untallied-counted = untallied-count-each _ (λ n′ o k sn so sk z. counted (sizedCode n′ n′ o k) n′ o z ∙ permanent-is-count n′ o ∙ ap₂ count sn so);
       compared = λ opens″ callouts″ ok″.
           let sized = accepted n n opens″ callouts″ ok″ .open-words ∙ sym (accepted n n opens callouts ok .open-words) in
           let q = same-listing n opens opens″ F sized R (range n n opens″ callouts″ ok″) in

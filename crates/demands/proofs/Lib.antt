@@ -8,3 +8,4 @@ pub mod Demand3
 pub mod UsedCells
 pub mod PlanSheets
 pub mod BrittleItems
+pub mod Untallied

@@ -3,7 +3,7 @@ use mathlib.Core.Path.{_≡_, refl, sym, ap, _∙_}
 use mathlib.Core.Logic.{_≢_}
 use mathlib.Core.Bool.{Bool, true, false, not, cond, _||_}
 use mathlib.Core.List.{List, [], _∷_, nil≢cons}
-use Prim.Native.Nat.{ℕ, zero, suc, _+_, _*_, _^_, _≤_, _<_}
+use Prim.Native.Nat.{ℕ, zero, suc, _^_, _≤_, _<_}
 use native.Mathlib.Omega.{arith}
 use borrow.Author.Tests.{leb-true}
 use lib.Dec.{eqb, ltb, leb}
@@ -14,25 +14,25 @@ use Rattle.model.specs.declared.GradeAnswer.{GradeAnswer}
 use Rattle.model.specs.declared.PriceAnswer.{PriceAnswer}
 use Rattle.model.specs.declared.Lister.{Lister}
 use Rattle.model.specs.Lists.{any}
-use Rattle.model.specs.Refusal.{orElse, unless, planCode}
+use Rattle.model.specs.Refusal.{orElse, unless, fleetCode, planCode}
 use Rattle.model.specs.Rota.{strayCallout, cellCode, tableCode}
 use Rattle.model.specs.Plans.{plans, isPlan, plansAfter}
 use Rattle.model.specs.Fewest.{fewest, fewestPlans}
 use Rattle.model.specs.Deficiency.{deficiency, deficientSet}
 use Rattle.model.specs.Count.{count, permanent}
-use Rattle.model.specs.Grade.{someForced, gradeOf, rotaGrade, rate, monthlyPrice}
+use Rattle.model.specs.Grade.{someForced, gradeOf, rotaGrade, monthlyPrice}
 use Rattle.model.specs.PlanAnswers.{given, refused, short, overCap, noPlan, firstOf, firstFrom, firstAnswer, nextOf, nextFrom, nextAnswer, fewestOf, fewestFrom}
 use Rattle.model.specs.PlanAnswers.{fewestAnswer}
 use Rattle.model.specs.Lister.{listerAnswer}
 use Rattle.model.specs.CountAnswers.{sizedCode, countCode}
-use Rattle.model.specs.PriceAnswers.{gradeRefused, gradeBy, gradeUnless, priceRefused, priceBy, priceUnless, priceCode}
+use Rattle.model.specs.PriceAnswers.{gradeRefused, gradeBy, gradeUnless, priceRefused, priceBy, priceUnless, untalliedPriceCode, priceCode}
 use Rattle.model.proofs.Members.{of-cond}
 use Rattle.model.proofs.Refusals.{neither-refuses}
 use Rattle.model.proofs.Accepted.{tables-from}
 use Rattle.model.proofs.Permanent.{permanent-is-count}
 use Rattle.model.proofs.Fewest.{fewest-empty}
 use Rattle.demands.specs.Demand1.{Refused}
-use Rattle.demands.specs.Demand2.{IsFirst, IsNext, IsFewest, IsFewestPlan, IsShort, Graded}
+use Rattle.demands.specs.Demand2.{IsFirst, IsNext, IsFewest, IsFewestPlan, IsShort, Graded, Priced}
 use Rattle.demands.proofs.Definitions.{first-is, next-is, fewest-is, is-fewest, short-is, forced-is}
 
 -- ---- the tests before 8 give lower numbers
@@ -66,13 +66,20 @@ module _ (n : ℕ) (opens callouts : List ℕ) where
   unfolding sizedCode
   sized-tested = then-tested _ _ (record { low = table-low; tables = λ z. z }) (cond-low (ltb 20 n) 5 0 (omega arith) (omega arith))
 
+  fleet-low : (vehicles : ℕ) → fleetCode vehicles ≤ 7
+  fleet-low vehicles = cond-low (eqb vehicles 0 || ltb 10000 vehicles) 7 0 (omega arith) (omega arith)
+
+  pub untallied-price-tested : (vehicles : ℕ) → CodeTested n opens callouts (untalliedPriceCode n n opens callouts vehicles)
+  unfolding untalliedPriceCode
+  untallied-price-tested vehicles = then-tested _ _ sized-tested (fleet-low vehicles)
+
   pub count-tested : (words : ℕ) → CodeTested n opens callouts (countCode n n opens callouts words)
   unfolding countCode
   count-tested words = then-tested _ _ sized-tested (cond-low (ltb words (2 ^ n)) 6 0 (omega arith) (omega arith))
 
   pub price-tested : (vehicles words : ℕ) → CodeTested n opens callouts (priceCode n n opens callouts vehicles words)
   unfolding priceCode
-  price-tested vehicles words = then-tested _ _ (count-tested words) (cond-low (eqb vehicles 0 || ltb 10000 vehicles) 7 0 (omega arith) (omega arith))
+  price-tested vehicles words = then-tested _ _ (count-tested words) (fleet-low vehicles)
 
 -- ---- the law of all of them
 
@@ -199,8 +206,7 @@ module _ (n : ℕ) (opens callouts : List ℕ) where
     abbrev PriceSays : PriceAnswer → Type 0
     PriceSays a =
         (a .code ≢ 0 → (a .cents ≡ 0) × (a .code ≢ 9 → (a .shortage ≡ 0) × (a .items ≡ 0)))
-        × (a .code ≡ 0 → ((grade number : ℕ) × Graded (permanent n opens) opens grade × IsFewest opens callouts number
-        × (a .cents ≡ rate grade vehicles * vehicles + 4500 * number)) × (a .shortage ≡ 0) × (a .items ≡ 0))
+        × (a .code ≡ 0 → Priced n opens callouts vehicles (a .cents) × (a .shortage ≡ 0) × (a .items ≡ 0))
         × (a .code ≡ 9 → IsShort opens (a .shortage) (a .items))
 
     pub price-says : PriceSays (priceUnless code n opens callouts vehicles)

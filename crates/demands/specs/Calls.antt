@@ -39,6 +39,12 @@ use Rattle.rota.proofs.pricing.rota_grade as grade
 use Rattle.rota.proofs.pricing.rota_grade.Reads as grade-reads
 use Rattle.rota.proofs.pricing.rota_monthly_price as price
 use Rattle.rota.proofs.pricing.rota_monthly_price.Reads as price-reads
+use Rattle.rota.proofs.untallied.rota_count_plans_untallied as untallied-count
+use Rattle.rota.proofs.untallied.rota_count_plans_untallied.Reads as untallied-count-reads
+use Rattle.rota.proofs.untallied.rota_grade_untallied as untallied-grade
+use Rattle.rota.proofs.untallied.rota_grade_untallied.Reads as untallied-grade-reads
+use Rattle.rota.proofs.untallied.rota_monthly_price_untallied as untallied-price
+use Rattle.rota.proofs.untallied.rota_monthly_price_untallied.Reads as untallied-price-reads
 use Rattle.rota.proofs.files.rota_read_file as read
 use Rattle.rota.proofs.files.rota_read_file.Reads as read-reads
 use Rattle.rota.proofs.files.rota_write_file as write
@@ -108,6 +114,20 @@ unfoldable pub EachPrice : (ℕ → List ℕ → List ℕ → ℕ → List ℕ �
 EachPrice P = (κs : Lfts 3) (a : Args price.signature κs) (r : Res price.signature κs) (s : AtExit price.ended κs) → price-reads.Learnt κs a r s
     → P (a .0) (now (a .1 .0)) (now (a .1 .1 .0)) (a .1 .1 .1 .0) (now (a .1 .1 .1 .1 .0)) r (now (s .1 .1 .1 .1 .0))
 
+-- ---- count, grade and price without a tally
+
+unfoldable pub EachUntalliedCount : (ℕ → List ℕ → List ℕ → CountAnswer → Type 0) → Type 0
+EachUntalliedCount P = (κs : Lfts 2) (a : Args untallied-count.signature κs) (r : Res untallied-count.signature κs) (s : AtExit untallied-count.ended κs)
+    → untallied-count-reads.Learnt κs a r s → P (a .0) (now (a .1 .0)) (now (a .1 .1 .0)) r
+
+unfoldable pub EachUntalliedGrade : (ℕ → List ℕ → List ℕ → GradeAnswer → Type 0) → Type 0
+EachUntalliedGrade P = (κs : Lfts 2) (a : Args untallied-grade.signature κs) (r : Res untallied-grade.signature κs) (s : AtExit untallied-grade.ended κs)
+    → untallied-grade-reads.Learnt κs a r s → P (a .0) (now (a .1 .0)) (now (a .1 .1 .0)) r
+
+unfoldable pub EachUntalliedPrice : (ℕ → List ℕ → List ℕ → ℕ → PriceAnswer → Type 0) → Type 0
+EachUntalliedPrice P = (κs : Lfts 2) (a : Args untallied-price.signature κs) (r : Res untallied-price.signature κs) (s : AtExit untallied-price.ended κs)
+    → untallied-price-reads.Learnt κs a r s → P (a .0) (now (a .1 .0)) (now (a .1 .1 .0)) (a .1 .1 .1 .0) r
+
 -- ---- files
 
 unfoldable pub EachRead : (List ℕ → List ℕ → List ℕ → ReadAnswer → List ℕ → List ℕ → Type 0) → Type 0
@@ -142,6 +162,9 @@ pub record AskNothing : Type 2 where
   pub count-plans : (κs : Lfts 3) (a : Args count.signature κs) → count-reads.Asked κs a
   pub grade : (κs : Lfts 3) (a : Args grade.signature κs) → grade-reads.Asked κs a
   pub monthly-price : (κs : Lfts 3) (a : Args price.signature κs) → price-reads.Asked κs a
+  pub count-plans-untallied : (κs : Lfts 2) (a : Args untallied-count.signature κs) → untallied-count-reads.Asked κs a
+  pub grade-untallied : (κs : Lfts 2) (a : Args untallied-grade.signature κs) → untallied-grade-reads.Asked κs a
+  pub monthly-price-untallied : (κs : Lfts 2) (a : Args untallied-price.signature κs) → untallied-price-reads.Asked κs a
   pub read-file : (κs : Lfts 3) (a : Args read.signature κs) → read-reads.Asked κs a
   pub write-file : (κs : Lfts 3) (a : Args write.signature κs) → write-reads.Asked κs a
   pub file-first-plan : (κs : Lfts 2) (a : Args file-first.signature κs) → file-first-reads.Asked κs a

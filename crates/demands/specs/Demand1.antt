@@ -12,7 +12,8 @@ use Rattle.model.specs.declared.PlanAnswer.{PlanAnswer}
 use Rattle.model.specs.Plans.{blank}
 use Rattle.model.specs.File.{blocksFor, itemsIn, opensIn, calloutsIn}
 use Rattle.demands.specs.Calls.{EachFirst, EachNext, EachFewest, EachCell, EachSheet, EachList, EachUsable, EachCount, EachGrade, EachPrice, EachRead}
-use Rattle.demands.specs.Calls.{EachWrite, EachFileFirst, EachFileNext, EachFileFewest, AskNothing}
+use Rattle.demands.specs.Calls.{EachUntalliedCount, EachUntalliedGrade, EachUntalliedPrice, EachWrite, EachFileFirst, EachFileNext, EachFileFewest}
+use Rattle.demands.specs.Calls.{AskNothing}
 use Rattle.demands.specs.Tests.{FirstOf, test5, test6, test7, test8, test9, test10, test11, test15, tables, fileTests}
 
 -- a refused answer: the blank plan; item set and shortage 0 but with 9, callouts 0 but with 11
@@ -39,6 +40,10 @@ pub record Demand1 : Type 2 where
   pub grade-code : EachGrade (λ n opens callouts tally r new. FirstOf (tables n opens callouts (test5 n ∷ test6 n tally ∷ test9 opens ∷ [])) (r .code))
   pub price-code : EachPrice (λ n opens callouts vehicles tally r new.
       FirstOf (tables n opens callouts (test5 n ∷ test6 n tally ∷ test7 vehicles ∷ test9 opens ∷ [])) (r .code))
+  pub untallied-count-code : EachUntalliedCount (λ n opens callouts r. FirstOf (tables n opens callouts (test5 n ∷ [])) (r .code))
+  pub untallied-grade-code : EachUntalliedGrade (λ n opens callouts r. FirstOf (tables n opens callouts (test5 n ∷ test9 opens ∷ [])) (r .code))
+  pub untallied-price-code : EachUntalliedPrice (λ n opens callouts vehicles r.
+      FirstOf (tables n opens callouts (test5 n ∷ test7 vehicles ∷ test9 opens ∷ [])) (r .code))
   pub read-code : EachRead (λ file o k r o′ k′. FirstOf (fileTests file (test15 o (itemsIn file) ∷ test15 k (itemsIn file) ∷ [])) (r .code))
   pub write-code : EachWrite (λ n opens callouts old r new. FirstOf (tables n opens callouts (test15 old (512 * blocksFor n) ∷ [])) (r .code))
   pub file-first-code : EachFileFirst (λ file old r new. FirstOf (fileTests file (test15 old 64 ∷ test9 (opensIn file) ∷ [])) r)
@@ -56,6 +61,11 @@ pub record Demand1 : Type 2 where
   pub count-refused : EachCount (λ n opens callouts tally r new. r .code ≢ 0 → r .count ≡ 0)
   pub grade-refused : EachGrade (λ n opens callouts tally r new. r .code ≢ 0 → (r .grade ≡ 0) × (r .code ≢ 9 → (r .shortage ≡ 0) × (r .items ≡ 0)))
   pub price-refused : EachPrice (λ n opens callouts vehicles tally r new. r .code ≢ 0 → (r .cents ≡ 0) × (r .code ≢ 9 → (r .shortage ≡ 0) × (r .items ≡ 0)))
+  pub untallied-count-refused : EachUntalliedCount (λ n opens callouts r. r .code ≢ 0 → r .count ≡ 0)
+  pub untallied-grade-refused : EachUntalliedGrade (λ n opens callouts r.
+      r .code ≢ 0 → (r .grade ≡ 0) × (r .code ≢ 9 → (r .shortage ≡ 0) × (r .items ≡ 0)))
+  pub untallied-price-refused : EachUntalliedPrice (λ n opens callouts vehicles r.
+      r .code ≢ 0 → (r .cents ≡ 0) × (r .code ≢ 9 → (r .shortage ≡ 0) × (r .items ≡ 0)))
   pub read-refused : EachRead (λ file o k r o′ k′. r .code ≢ 0 → r .n ≡ 0)
   pub write-refused : EachWrite (λ n opens callouts old r new. r .code ≢ 0 → r .bytes ≡ 0)
   -- "and changes no lent buffer and no lister"

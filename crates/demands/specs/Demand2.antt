@@ -18,7 +18,7 @@ use Rattle.model.specs.Count.{permanent, subsetCount}
 use Rattle.model.specs.Grade.{gradeOf, rate}
 use Rattle.model.specs.File.{opensIn, calloutsIn}
 use Rattle.demands.specs.Calls.{EachFirst, EachNext, EachFewest, EachList, EachUsable, EachCount, EachGrade, EachPrice, EachRead, EachWrite}
-use Rattle.demands.specs.Calls.{EachFileFirst, EachFileNext, EachFileFewest}
+use Rattle.demands.specs.Calls.{EachUntalliedCount, EachUntalliedGrade, EachUntalliedPrice, EachFileFirst, EachFileNext, EachFileFewest}
 
 -- ---- the definitions, by index
 
@@ -69,6 +69,11 @@ pub record Graded (P : ℕ) (opens : List ℕ) (grade : ℕ) : Type 0 where
   pub brittle : (some-brittle ≡ true) ↔ ((i : ℕ) × Brittle opens i)
   pub rules : grade ≡ gradeOf P some-brittle
 
+-- "Monthly price in cents = rate × vehicles + 4,500 × fewest callouts"
+abbrev pub Priced : ℕ → List ℕ → List ℕ → ℕ → ℕ → Type 0
+Priced n opens callouts vehicles cents =
+    (grade number : ℕ) × Graded (permanent n opens) opens grade × IsFewest opens callouts number × (cents ≡ rate grade vehicles * vehicles + 4500 * number)
+
 pub record Demand2 : Type 1 where
   -- "the first, next and fewest-callout plan"
   pub first : EachFirst (λ n opens callouts r. r .code ≡ 0 → IsFirst opens (r .plan .slots) × (r .shortage ≡ 0) × (r .items ≡ 0) × (r .callouts ≡ 0))
@@ -79,6 +84,7 @@ pub record Demand2 : Type 1 where
   pub over : EachFewest (λ n opens callouts cap r. r .code ≡ 11 → IsFewest opens callouts (r .callouts))
   -- "the count, usable table": the count is the permanent
   pub count : EachCount (λ n opens callouts tally r new. r .code ≡ 0 → (r .count ≡ permanent n opens) × Tallied n opens tally new)
+  pub untallied-count : EachUntalliedCount (λ n opens callouts r. r .code ≡ 0 → r .count ≡ permanent n opens)
   pub usable : EachUsable (λ n opens callouts old r new. r ≡ 0
       → ((i j : ℕ) → i < n → (bit (getD new i 0) j ≡ 1) ↔ ((p : List ℕ) × IsPlan opens p × (getD p i 0 ≡ j))) × (drop n new ≡ drop n old))
   -- "shortage", with 9
@@ -87,14 +93,17 @@ pub record Demand2 : Type 1 where
   pub fewest-short : EachFewest (λ n opens callouts cap r. r .code ≡ 9 → IsShort opens (r .shortage) (r .items))
   pub grade-short : EachGrade (λ n opens callouts tally r new. r .code ≡ 9 → IsShort opens (r .shortage) (r .items))
   pub price-short : EachPrice (λ n opens callouts vehicles tally r new. r .code ≡ 9 → IsShort opens (r .shortage) (r .items))
+  pub untallied-grade-short : EachUntalliedGrade (λ n opens callouts r. r .code ≡ 9 → IsShort opens (r .shortage) (r .items))
+  pub untallied-price-short : EachUntalliedPrice (λ n opens callouts vehicles r. r .code ≡ 9 → IsShort opens (r .shortage) (r .items))
   -- "grade and price"
   pub grade : EachGrade (λ n opens callouts tally r new. r .code ≡ 0
       → Graded (permanent n opens) opens (r .grade) × Tallied n opens tally new × (r .shortage ≡ 0) × (r .items ≡ 0))
-  -- "Monthly price in cents = rate × vehicles + 4,500 × fewest callouts"
   pub price : EachPrice (λ n opens callouts vehicles tally r new. r .code ≡ 0
-      → ((grade number : ℕ) × Graded (permanent n opens) opens grade × IsFewest opens callouts number
-      × (r .cents ≡ rate grade vehicles * vehicles + 4500 * number))
-      × Tallied n opens tally new × (r .shortage ≡ 0) × (r .items ≡ 0))
+      → Priced n opens callouts vehicles (r .cents) × Tallied n opens tally new × (r .shortage ≡ 0) × (r .items ≡ 0))
+  pub untallied-grade : EachUntalliedGrade (λ n opens callouts r. r .code ≡ 0
+      → Graded (permanent n opens) opens (r .grade) × (r .shortage ≡ 0) × (r .items ≡ 0))
+  pub untallied-price : EachUntalliedPrice (λ n opens callouts vehicles r. r .code ≡ 0
+      → Priced n opens callouts vehicles (r .cents) × (r .shortage ≡ 0) × (r .items ≡ 0))
   -- the plan calls on a file do this over the rota in it, in the buffer's first 64 bytes
   pub file-first : EachFileFirst (λ file old r new. r ≡ 0 → IsFirst (opensIn file) (take 64 new) × (drop 64 new ≡ drop 64 old))
   pub file-next : EachFileNext (λ file old r new. r ≡ 0 → IsNext (opensIn file) (take 64 old) (take 64 new) × (drop 64 new ≡ drop 64 old))

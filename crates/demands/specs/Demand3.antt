@@ -1,4 +1,5 @@
--- Demand 3, of an accepted rota, over calls of `rota_list_plan`, `rota_usable_slots` and `rota_count_plans` that were made. Assumes nothing.
+-- Demand 3, of an accepted rota, over calls of `rota_list_plan`, `rota_usable_slots`, `rota_count_plans` and `rota_count_plans_untallied` that were
+-- made. Assumes nothing.
 use mathlib.Core.Path.{_≡_}
 use mathlib.Core.Logic.{_≢_, _↔_}
 use mathlib.Core.Bool.{Bool, true, false}
@@ -13,7 +14,7 @@ use Rattle.model.specs.Rota.{tableCode}
 use Rattle.model.specs.Plans.{plans, IsPlan}
 use Rattle.model.specs.PlanAnswers.{noPlan}
 use Rattle.model.specs.Listing.{Made, ownAnswers, leftBy, callAnswer, holding}
-use Rattle.demands.specs.Calls.{ListCall, EachUsable, EachCount}
+use Rattle.demands.specs.Calls.{ListCall, EachUsable, EachCount, EachUntalliedCount}
 
 -- the lister that a call got, and the one that it left
 abbrev pub entry : ListCall → Lister
@@ -79,6 +80,8 @@ module _ (n : ℕ) (opens callouts : List ℕ) where
     pub once : (i k : ℕ) → i < k → k < length (plans n opens) → Before (getD (plans n opens) i []) (getD (plans n opens) k [])
     -- "and up to twenty items its length is the count"
     pub counted : EachCount (λ n′ opens′ callouts′ tally r new. n′ ≡ n → opens′ ≡ opens → callouts′ ≡ callouts → r .code ≡ 0
+        → r .count ≡ length (plans n opens))
+    pub untallied-counted : EachUntalliedCount (λ n′ opens′ callouts′ r. n′ ≡ n → opens′ ≡ opens → callouts′ ≡ callouts → r .code ≡ 0
         → r .count ≡ length (plans n opens))
     -- "Two accepted rotas with the same number of items are equal in their listings exactly when they are equal in their usable cells, a
     -- cell being usable if some complete plan holds it.": "the n words that the usable table writes"

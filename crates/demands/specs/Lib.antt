@@ -6,3 +6,4 @@ pub mod Demand3
 pub mod UsedCells
 pub mod PlanSheets
 pub mod BrittleItems
+pub mod Untallied

@@ -17,8 +17,9 @@ use Rattle.model.specs.Count.{count}
 use Rattle.model.specs.Grade.{rotaGrade, monthlyPrice}
 use Rattle.model.specs.File.{itemsIn, slotsIn, opensIn, calloutsIn}
 use Rattle.model.specs.PlanAnswers.{refused, firstFrom, firstAnswer, nextFrom, nextAnswer, fewestFrom, fewestAnswer, cellAnswer}
-use Rattle.model.specs.CountAnswers.{countRefused, countUnless, countCode, countAnswer}
-use Rattle.model.specs.PriceAnswers.{gradeRefused, gradeBy, gradeUnless, gradeAnswer, priceRefused, priceBy, priceUnless, priceCode, priceAnswer}
+use Rattle.model.specs.CountAnswers.{countRefused, countUnless, sizedCode, untalliedCount, countCode, countAnswer}
+use Rattle.model.specs.PriceAnswers.{gradeRefused, gradeBy, gradeUnless, untalliedGrade, gradeAnswer, priceRefused, priceBy, priceUnless}
+use Rattle.model.specs.PriceAnswers.{untalliedPriceCode, untalliedPrice, priceCode, priceAnswer}
 use Rattle.model.specs.FileAnswers.{readRefused, readCode, readAnswer, writeRefused, writeCode, writeAnswer, planFileCode, onFile}
 use Rattle.model.proofs.Refusals.{or-none, unless-code}
 
@@ -55,6 +56,21 @@ module _ (n m : ℕ) (opens callouts : List ℕ) where
   pub cell-code : (i j : ℕ) → cellAnswer n m opens callouts i j .code ≡ tableCode n m opens callouts
   unfolding cellAnswer
   cell-code i j = plan-code (tableCode n m opens callouts) _ ∙ or-none _
+
+  pub untallied-count-code : untalliedCount n m opens callouts .code ≡ sizedCode n m opens callouts
+  unfolding untalliedCount
+  untallied-count-code = counted-code (sizedCode n m opens callouts) m opens
+
+  pub untallied-grade-code : untalliedGrade n m opens callouts .code
+      ≡ orElse (sizedCode n m opens callouts) (gradeBy opens (count m opens) (rotaGrade m opens) .code)
+  unfolding untalliedGrade
+  untallied-grade-code = graded-code (sizedCode n m opens callouts) m opens
+
+  pub untallied-price-code : (vehicles : ℕ) → untalliedPrice n m opens callouts vehicles .code
+      ≡ orElse (untalliedPriceCode n m opens callouts vehicles)
+      (priceBy opens (count m opens) (monthlyPrice (rotaGrade m opens) vehicles (fewest m opens callouts)) .code)
+  unfolding untalliedPrice
+  untallied-price-code vehicles = priced-code (untalliedPriceCode n m opens callouts vehicles) m opens callouts vehicles
 
   module _ (words : ℕ) where
     pub count-code : countAnswer n m opens callouts words .code ≡ countCode n m opens callouts words

@@ -21,6 +21,7 @@ pub mod Decimal
 pub mod Ways
 pub mod Supports
 pub mod Subsets
+pub mod Ryser
 pub mod Parts
 pub mod Editions
 pub mod FileBlocks

@@ -47,7 +47,7 @@ members-without m set j = keep-keep (has set) (λ x. not (eqb j x)) (below m) �
 -- ---- the words
 
 -- more slots than items
-too-many : (opens slots : List ℕ) (k : ℕ) → length opens < k → length (matchings opens k slots) ≡ 0
+pub too-many : (opens slots : List ℕ) (k : ℕ) → length opens < k → length (matchings opens k slots) ≡ 0
 unfolding matchings
 too-many opens slots k h = ap length (empty-list _ (λ p m.
     let r = keep-from (cellsOpen opens) (arrangements k slots) m in
@@ -168,7 +168,8 @@ module _ (m : ℕ) (opens : List ℕ) (few : m ≤ 20) where
   unfolding subsetCount
   subset-fits set h = bounded (ones set) (take (ones set) opens) (members m set) (omega (arith, length-members m set h, ones-le m set h))
 
+  pub count-le : count m opens ≤ 2432902008176640000
+  count-le = rw (count-matchings m opens) (bounded (length opens) opens (below m) (omega (arith, length-below m)))
+
   pub count-fits : (s : ℕ) → s ≤ 2 ^ m → sum (complete m opens) s ≤ 2432902008176640000
-  count-fits s h =
-      le-trans (sum-mono (complete m opens) s (2 ^ m) h)
-      (rw (← count-by-set m opens, count-matchings m opens) (bounded (length opens) opens (below m) (omega (arith, length-below m))))
+  count-fits s h = le-trans (sum-mono (complete m opens) s (2 ^ m) h) (rw (← count-by-set m opens) count-le)

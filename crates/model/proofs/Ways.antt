@@ -84,15 +84,19 @@ unfolding flatMap total
 length-flatMap f [] = refl
 length-flatMap f (x ∷ l) = length-append (f x) (flatMap f l) ∙ ap (length (f x) +_) (length-flatMap f l)
 
-pub ways-cons : (w : ℕ) (opens slots : List ℕ) → ways (w ∷ opens) slots ≡ total (λ s. bit w s * ways opens (remove s slots)) slots
-unfolding ways
-ways-cons w opens slots =
-    ap length (matchings-cons w opens (length opens) slots)
-    ∙ length-flatMap (λ s. cond (has w s) (map (s ∷_) (matchings opens (length opens) (remove s slots))) []) slots
+pub matchings-count : (w : ℕ) (opens : List ℕ) (k : ℕ) (slots : List ℕ)
+    → length (matchings (w ∷ opens) (suc k) slots) ≡ total (λ s. bit w s * length (matchings opens k (remove s slots))) slots
+matchings-count w opens k slots =
+    ap length (matchings-cons w opens k slots)
+    ∙ length-flatMap (λ s. cond (has w s) (map (s ∷_) (matchings opens k (remove s slots))) []) slots
     ∙ total-same _ _ slots (λ s.
-    let l = matchings opens (length opens) (remove s slots) in
+    let l = matchings opens k (remove s slots) in
     (elim (has w s) as (λ b. length (cond b (map (s ∷_) l) []) ≡ one b * length l) [ true ↦ length-map l (s ∷_) ∙ omega arith | false ↦ omega arith ])
     ∙ ap (_* length l) (sym (bit-is w s)))
+
+pub ways-cons : (w : ℕ) (opens slots : List ℕ) → ways (w ∷ opens) slots ≡ total (λ s. bit w s * ways opens (remove s slots)) slots
+unfolding ways
+ways-cons w opens slots = matchings-count w opens (length opens) slots
 
 -- ---- by the last item
 

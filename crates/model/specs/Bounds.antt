@@ -9,7 +9,8 @@ use Rattle.model.specs.Rota.{tableCode}
 use Rattle.model.specs.Grade.{gradeOf, rate}
 use Rattle.model.specs.File.{blocksFor, fileCode}
 use Rattle.model.specs.Refusal.{fleetCode, roomCode}
-use Rattle.model.specs.CountAnswers.{countCode}
+use Rattle.model.specs.CountAnswers.{sizedCode, untalliedCount, countCode}
+use Rattle.model.specs.PriceAnswers.{untalliedPriceCode}
 use Rattle.model.specs.Decimal.{decimal}
 use Rattle.model.specs.Sheet.{aligned, markOf}
 use Rattle.model.specs.ListingText.{lastLine, listingOf}
@@ -27,6 +28,10 @@ pub record Codes : Type 0 where
   pub stray : tableCode 2 2 (1 ∷ 3 ∷ []) (0 ∷ 4 ∷ []) ≡ 4
   pub twenty : countCode 20 20 (replicate 20 1) (replicate 20 0) (2 ^ 20) ≡ 0
   pub twenty-one : countCode 21 21 (replicate 21 1) (replicate 21 0) 0 ≡ 5
+  pub untallied-twenty : sizedCode 20 20 (replicate 20 1) (replicate 20 0) ≡ 0
+  pub untallied-twenty-one : untalliedCount 21 21 (replicate 21 1) (replicate 21 0) ≡ record { code = 5; count = 0 }
+  pub untallied-five-first : untalliedPriceCode 21 21 (replicate 21 1) (replicate 21 0) 0 ≡ 5
+  pub untallied-no-vehicle : untalliedPriceCode 20 20 (replicate 20 1) (replicate 20 0) 0 ≡ 7
   pub small-tally : countCode 20 20 (replicate 20 1) (replicate 20 0) (2 ^ 20 - 1) ≡ 6
   pub no-vehicle : fleetCode 0 ≡ 7
   pub one-vehicle : fleetCode 1 ≡ 0
@@ -41,7 +46,7 @@ pub record Codes : Type 0 where
   pub wrong-check : fileCode Edition.One (1 ∷ replicate 511 0) ≡ 13
 
 pub codes : Codes
-unfolding tableCode countCode fileCode
+unfolding tableCode untalliedCount untalliedPriceCode countCode fileCode
 codes = search refl
 
 -- the rules of the grade, the second argument saying whether some item has just one open slot; the rates' columns; the blocks

@@ -1,4 +1,5 @@
--- What the call for the count answers, and the tally that it leaves. The tally of docs/RULES.md are the subset counts. Assumes nothing.
+-- What the calls for the count answer, and the tally that the one with a tally leaves. The tally of docs/RULES.md are the subset counts. Assumes
+-- nothing.
 use mathlib.Core.List.{List}
 use Prim.Native.Nat.{ℕ}
 use lib.ListN.{length}
@@ -32,3 +33,8 @@ countAnswer n m opens callouts words = countUnless (countCode n m opens callouts
 unfoldable pub countTally : ℕ → ℕ → List ℕ → List ℕ → List ℕ → List ℕ
 unfolding written countAnswer subsetCounts
 countTally n m opens callouts tally = written (countAnswer n m opens callouts (length tally) .code) (subsetCounts m opens) tally
+
+-- without a tally
+unfoldable pub untalliedCount : ℕ → ℕ → List ℕ → List ℕ → CountAnswer
+unfolding countUnless sizedCode
+untalliedCount n m opens callouts = countUnless (sizedCode n m opens callouts) m opens

@@ -8,6 +8,7 @@ pub mod CellPlans
 pub mod Allowed
 pub mod Deficiency
 pub mod Count
+pub mod Ryser
 pub mod Grade
 pub mod File
 pub mod Refusal

@@ -1,19 +1,21 @@
 -- Worked rotas of docs/RULES.md, those that document 01 marks P (the grade of 7, 6, 6 is change request 103's), and T's file and listing: tables of
 -- equations that antt computes. Assumes nothing.
 use mathlib.Core.Path.{_≡_, refl}
-use mathlib.Core.List.{List, [], _∷_, _++_}
+use mathlib.Core.List.{List, [], _∷_, _++_, map}
 use Prim.Native.Nat.{ℕ, _+_, _*_}
 use lib.ListN.{length, getD, take, drop, replicate}
 use Rattle.model.specs.declared.Edition.{Edition}
 use Rattle.model.specs.declared.Plan.{Plan}
+use Rattle.words.specs.Sum.{below}
 use Rattle.model.specs.Plans.{plans, blank}
 use Rattle.model.specs.Allowed.{allowedWords}
 use Rattle.model.specs.Count.{permanent, subsetCounts}
+use Rattle.model.specs.Ryser.{setProduct, addedTerms, takenTerms}
 use Rattle.model.specs.File.{fileBytes, fileCode, itemsIn, opensIn, calloutsIn}
 use Rattle.model.specs.PlanAnswers.{firstAnswer, nextAnswer, fewestAnswer, cellAnswer, given, refused, short, overCap}
-use Rattle.model.specs.CountAnswers.{countAnswer}
+use Rattle.model.specs.CountAnswers.{countAnswer, untalliedCount}
 use Rattle.model.specs.SheetAnswers.{sheetCode, sheetAfter}
-use Rattle.model.specs.PriceAnswers.{gradeAnswer, priceAnswer}
+use Rattle.model.specs.PriceAnswers.{gradeAnswer, untalliedGrade, priceAnswer, untalliedPrice}
 use Rattle.model.specs.ListingText.{listingText}
 
 abbrev T-opens : List ℕ
@@ -72,6 +74,21 @@ pub record Rows : Type 0 where
 pub rows : Rows
 unfolding plans countAnswer fewestAnswer gradeAnswer priceAnswer allowedWords firstAnswer nextAnswer cellAnswer
 rows = search refl
+
+-- without a tally
+pub record UntalliedRows : Type 0 where
+  pub T-count : untalliedCount 3 3 T-opens T-callouts ≡ record { code = 0; count = 3 }
+  pub T-grade : untalliedGrade 3 3 T-opens T-callouts ≡ record { code = 0; grade = 3; shortage = 0; items = 0 }
+  pub T-price : untalliedPrice 3 3 T-opens T-callouts 100 ≡ record { code = 0; shortage = 0; items = 0; cents = 285 * 100 + 4500 }
+  pub one-count : untalliedCount 1 1 (1 ∷ []) (none 1) ≡ record { code = 0; count = 1 }
+  -- no plan: the count is 0, the grade and the price are refused
+  pub none-count : untalliedCount 1 1 (0 ∷ []) (none 1) ≡ record { code = 0; count = 0 }
+  pub none-grade : untalliedGrade 1 1 (0 ∷ []) (none 1) ≡ record { code = 9; grade = 0; shortage = 1; items = 1 }
+  pub none-price : untalliedPrice 1 1 (0 ∷ []) (none 1) 1 ≡ record { code = 9; shortage = 1; items = 1; cents = 0 }
+
+pub untallied-rows : UntalliedRows
+unfolding untalliedCount untalliedGrade untalliedPrice
+untallied-rows = search refl
 
 -- T's file is one block, its check 338: byte 510 is 82 and byte 511 is 1; and back
 pub record File : Type 0 where
@@ -134,3 +151,18 @@ T-tally = refl
 pub T-permanent : permanent 3 T-opens ≡ 3
 unfolding permanent
 T-permanent = refl
+
+-- Ryser's formula: T's products, of the sets 0 to 7 as words, and its two sums; one item, where the set without a slot is taken off; no item
+pub record Formula : Type 0 where
+  pub T-products : map (setProduct T-opens) (below 8) ≡ 0 ∷ 0 ∷ 1 ∷ 4 ∷ 0 ∷ 2 ∷ 4 ∷ 12 ∷ []
+  pub T-added : addedTerms 3 T-opens ≡ 12 + 1
+  pub T-taken : takenTerms 3 T-opens ≡ 4 + 2 + 4
+  pub one-added : addedTerms 1 (1 ∷ []) ≡ 1
+  pub one-taken : takenTerms 1 (1 ∷ []) ≡ 0
+  pub none-added : addedTerms 1 (0 ∷ []) ≡ 0
+  pub nobody-added : addedTerms 0 [] ≡ 1
+  pub nobody-taken : takenTerms 0 [] ≡ 0
+
+pub formula : Formula
+unfolding setProduct below addedTerms takenTerms
+formula = search refl

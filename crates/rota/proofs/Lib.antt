@@ -3,6 +3,7 @@ mod SheetCalls
 mod Countable
 mod Priced
 mod Tallies
+mod NoTally
 mod Stepping
 mod FileTables
 mod OnFiles

@@ -216,11 +216,14 @@ pub without-le : (w j : ℕ) → without w j ≤ w
 unfolding without
 without-le w j = omega arith
 
-pub without-less : (w j : ℕ) → bit w j ≡ 1 → without w j < w
+pub without-add : (w j : ℕ) → bit w j ≡ 1 → 2 ^ j + without w j ≡ w
 unfolding without
-without-less w j e =
+without-add w j e =
     let one : bit w j * 2 ^ j ≡ 2 ^ j = ap (_* 2 ^ j) e ∙ one-mul (2 ^ j) in
-    omega (arith, pow-pos j, bit-value-le w j)
+    omega (arith, bit-value-le w j)
+
+pub without-less : (w j : ℕ) → bit w j ≡ 1 → without w j < w
+without-less w j e = omega (arith, without-add w j e, pow-pos j)
 
 pub with-lt : (k w j : ℕ) → w < 2 ^ k → j < k → with w j < 2 ^ k
 with-lt zero w j h l = absurd (omega arith)

@@ -1,6 +1,7 @@
 pub mod Bits
 pub mod Sums
 pub mod SetLaws
+pub mod OneMore
 pub mod Walk
 pub mod Sweep
 pub mod Front

@@ -128,6 +128,10 @@ module _ (f : ℕ → ℕ) where
   unfolding sum below upFrom total
   sum-front n = ap (f 0 +_) (total-shift 0 n)
 
+pub sum-split : (f : ℕ → ℕ) (a b : ℕ) → sum f (a + b) ≡ sum f a + sum (λ i. f (a + i)) b
+sum-split f a zero = ap (sum f) (add-zero a) ∙ omega (arith, sum-zero (λ i. f (a + i)))
+sum-split f a (suc b) = ap (sum f) (add-suc a b) ∙ omega (arith, sum-suc f (a + b), sum-suc (λ i. f (a + i)) b, sum-split f a b)
+
 pub sum-cong : (f g : ℕ → ℕ) (n : ℕ) → ((i : ℕ) → i < n → f i ≡ g i) → sum f n ≡ sum g n
 unfolding sum
 sum-cong f g n h = total-cong f g (below n) (λ i m. h i (below-from n m))

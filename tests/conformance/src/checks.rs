@@ -155,7 +155,7 @@ impl Session {
     }
 
     /// What a call on a tally leaves in it.
-    fn counted(known: &Known, code: u32) -> &[u64] {
+    pub fn counted(known: &Known, code: u32) -> &[u64] {
         if code != 0 {
             return &[];
         }

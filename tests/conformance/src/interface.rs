@@ -124,6 +124,15 @@ calls! {
         n: usize, opens: *const u64, opens_len: usize, callouts: *const u64, callouts_len: usize,
         vehicles: u64, tally: *mut u64, tally_len: usize
     ) -> PriceAnswer;
+    count_plans_untallied rota_count_plans_untallied(
+        n: usize, opens: *const u64, opens_len: usize, callouts: *const u64, callouts_len: usize
+    ) -> CountAnswer;
+    grade_untallied rota_grade_untallied(
+        n: usize, opens: *const u64, opens_len: usize, callouts: *const u64, callouts_len: usize
+    ) -> GradeAnswer;
+    monthly_price_untallied rota_monthly_price_untallied(
+        n: usize, opens: *const u64, opens_len: usize, callouts: *const u64, callouts_len: usize, vehicles: u64
+    ) -> PriceAnswer;
     read_file rota_read_file(
         file: *const u8, file_len: usize, opens: *mut u64, opens_len: usize, callouts: *mut u64, callouts_len: usize
     ) -> ReadAnswer;

@@ -5,6 +5,7 @@
 //! answers of the self-test, are spread over the machine's processors; a trace is of one round after the other.
 
 mod checks;
+mod checks_untallied;
 mod inputs;
 mod interface;
 mod lent;
@@ -76,7 +77,7 @@ fn compare(scale: u64, seed: u64, counts: bool, trace: bool) -> ExitCode {
     };
     if counts {
         for call in CALLS {
-            println!("{:26} {:9} cases {:9} calls", call.name(), session.cases_of(call), session.made_of(call));
+            println!("{:28} {:9} cases {:9} calls", call.name(), session.cases_of(call), session.made_of(call));
         }
     }
     println!("conformance: {} cases agree", session.all_cases());

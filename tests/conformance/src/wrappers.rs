@@ -108,6 +108,21 @@ impl Calls {
         unsafe { (self.monthly_price)(n, opens, opens_len, callouts, callouts_len, vehicles, words, len) }
     }
 
+    pub fn count_untallied(&self, tables: &mut LentTables) -> CountAnswer {
+        let (n, opens, opens_len, callouts, callouts_len) = tables.arguments();
+        unsafe { (self.count_plans_untallied)(n, opens, opens_len, callouts, callouts_len) }
+    }
+
+    pub fn graded_untallied(&self, tables: &mut LentTables) -> GradeAnswer {
+        let (n, opens, opens_len, callouts, callouts_len) = tables.arguments();
+        unsafe { (self.grade_untallied)(n, opens, opens_len, callouts, callouts_len) }
+    }
+
+    pub fn priced_untallied(&self, tables: &mut LentTables, vehicles: u64) -> PriceAnswer {
+        let (n, opens, opens_len, callouts, callouts_len) = tables.arguments();
+        unsafe { (self.monthly_price_untallied)(n, opens, opens_len, callouts, callouts_len, vehicles) }
+    }
+
     pub fn read(&self, file: &mut Lent<u8>, opens: &mut Lent<u64>, callouts: &mut Lent<u64>) -> ReadAnswer {
         let (open_words, callout_words) = ((opens.pointer(), opens.len()), (callouts.pointer(), callouts.len()));
         let (bytes, len) = (file.pointer(), file.len());

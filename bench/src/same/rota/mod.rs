@@ -7,4 +7,5 @@ pub mod lister;
 pub mod plans;
 pub mod pricing;
 pub mod sheets;
+pub mod untallied;
 pub mod usable;

@@ -20,6 +20,9 @@ pub enum Call {
     CountPlans,
     Grade,
     MonthlyPrice,
+    CountPlansUntallied,
+    GradeUntallied,
+    MonthlyPriceUntallied,
     ReadFile,
     WriteFile,
     FileFirstPlan,
@@ -29,7 +32,7 @@ pub enum Call {
 
 use Call::*;
 
-pub const CALLS: [Call; 15] = [
+pub const CALLS: [Call; 18] = [
     FirstPlan,
     NextPlan,
     ListPlan,
@@ -40,6 +43,9 @@ pub const CALLS: [Call; 15] = [
     CountPlans,
     Grade,
     MonthlyPrice,
+    CountPlansUntallied,
+    GradeUntallied,
+    MonthlyPriceUntallied,
     ReadFile,
     WriteFile,
     FileFirstPlan,
@@ -60,6 +66,9 @@ impl Call {
             CountPlans => "rota_count_plans",
             Grade => "rota_grade",
             MonthlyPrice => "rota_monthly_price",
+            CountPlansUntallied => "rota_count_plans_untallied",
+            GradeUntallied => "rota_grade_untallied",
+            MonthlyPriceUntallied => "rota_monthly_price_untallied",
             ReadFile => "rota_read_file",
             WriteFile => "rota_write_file",
             FileFirstPlan => "rota_file_first_plan",
@@ -82,6 +91,9 @@ impl Call {
             CountPlans => &[1, 2, 3, 4, 5, 6],
             Grade => &[1, 2, 3, 4, 5, 6, 9],
             MonthlyPrice => &[1, 2, 3, 4, 5, 6, 7, 9],
+            CountPlansUntallied => &[1, 2, 3, 4, 5],
+            GradeUntallied => &[1, 2, 3, 4, 5, 9],
+            MonthlyPriceUntallied => &[1, 2, 3, 4, 5, 7, 9],
             ReadFile => &[12, 13, 14, 3, 4, 15],
             FileFirstPlan => &[12, 13, 14, 3, 4, 15, 9],
             FileNextPlan => &[12, 13, 14, 3, 4, 15, 8, 10],
@@ -236,7 +248,7 @@ impl fmt::Display for Input<'_> {
             FewestCallouts | FileFewestCallouts => writeln!(f, "  cap {}", self.cap)?,
             NextPlan | FileNextPlan | PlanSheet => writeln!(f, "  given {}", plan_text(&self.given))?,
             ListPlan => writeln!(f, "  lister started {}, plan {}", self.started, plan_text(&self.given))?,
-            MonthlyPrice => writeln!(f, "  vehicles {}", self.vehicles)?,
+            MonthlyPrice | MonthlyPriceUntallied => writeln!(f, "  vehicles {}", self.vehicles)?,
             CellPlan => writeln!(f, "  item {}, slot {}", self.cell.0, self.cell.1)?,
             _ => {}
         }
@@ -244,6 +256,7 @@ impl fmt::Display for Input<'_> {
             CountPlans | Grade | MonthlyPrice => write!(f, "  tally of {} words", self.tally_words),
             ReadFile => write!(f, "  tables of {} and {} words", self.room[0], self.room[1]),
             FirstPlan | NextPlan | ListPlan | FewestCallouts | CellPlan => write!(f, "  no output lent"),
+            CountPlansUntallied | GradeUntallied | MonthlyPriceUntallied => write!(f, "  no output lent"),
             _ => write!(f, "  output of {} elements", self.room[0]),
         }
     }

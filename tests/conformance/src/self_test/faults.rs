@@ -1,7 +1,7 @@
 //! Faults of the stand-in: a changed reply, an exchanged order of tests, a buffer written where it should be kept.
 
 use super::mock::Reply;
-use super::{systematic, wrong, wrong_cells, wrong_files, wrong_grades, wrong_sheets};
+use super::{systematic, wrong, wrong_cells, wrong_files, wrong_grades, wrong_sheets, wrong_untallied};
 use crate::reference::answers::{Call, Input};
 use std::sync::Arc;
 
@@ -122,6 +122,7 @@ pub fn all() -> Vec<Fault> {
     faults.extend(wrong_cells::faults());
     faults.extend(wrong_sheets::faults());
     faults.extend(wrong_grades::faults());
+    faults.extend(wrong_untallied::faults());
     faults.extend(wrong_files::faults());
     faults
 }

@@ -54,9 +54,9 @@ impl Reply {
                     reply.lister = (true, reply.plan);
                 }
             }
-            Call::CountPlans => reply.number = input.count_answer(code).count,
-            Call::Grade => reply.number = input.grade_answer(code).grade.into(),
-            Call::MonthlyPrice => reply.number = input.price_answer(code).cents,
+            Call::CountPlans | Call::CountPlansUntallied => reply.number = input.count_answer(code).count,
+            Call::Grade | Call::GradeUntallied => reply.number = input.grade_answer(code).grade.into(),
+            Call::MonthlyPrice | Call::MonthlyPriceUntallied => reply.number = input.price_answer(code).cents,
             Call::ReadFile => reply.number = input.read_answer(code).n,
             Call::WriteFile => reply.number = input.write_answer(code).bytes,
             _ => {}

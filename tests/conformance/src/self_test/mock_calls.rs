@@ -19,6 +19,9 @@ pub fn calls() -> Calls {
         count_plans,
         grade,
         monthly_price,
+        count_plans_untallied,
+        grade_untallied,
+        monthly_price_untallied,
         read_file,
         write_file,
         file_first_plan,
@@ -66,6 +69,18 @@ impl Lending {
         store(tally, &reply.words);
         reply
     }
+}
+
+fn count_answer(reply: &Reply) -> CountAnswer {
+    CountAnswer { code: reply.code, count: reply.number }
+}
+
+fn grade_answer(reply: &Reply) -> GradeAnswer {
+    GradeAnswer { code: reply.code, grade: reply.number as u32, shortage: reply.shortage, items: reply.items }
+}
+
+fn price_answer(reply: &Reply) -> PriceAnswer {
+    PriceAnswer { code: reply.code, shortage: reply.shortage, items: reply.items, cents: reply.number }
 }
 
 fn plan_answer(reply: &Reply) -> PlanAnswer {
@@ -174,8 +189,7 @@ unsafe extern "C" fn count_plans(
     tally: *mut u64,
     len: usize,
 ) -> CountAnswer {
-    let reply = Lending(n, o, o_len, c, c_len).reply_with_tally(Call::CountPlans, tally, len, 0);
-    CountAnswer { code: reply.code, count: reply.number }
+    count_answer(&Lending(n, o, o_len, c, c_len).reply_with_tally(Call::CountPlans, tally, len, 0))
 }
 
 unsafe extern "C" fn grade(
@@ -187,8 +201,7 @@ unsafe extern "C" fn grade(
     tally: *mut u64,
     len: usize,
 ) -> GradeAnswer {
-    let reply = Lending(n, o, o_len, c, c_len).reply_with_tally(Call::Grade, tally, len, 0);
-    GradeAnswer { code: reply.code, grade: reply.number as u32, shortage: reply.shortage, items: reply.items }
+    grade_answer(&Lending(n, o, o_len, c, c_len).reply_with_tally(Call::Grade, tally, len, 0))
 }
 
 unsafe extern "C" fn monthly_price(
@@ -201,8 +214,39 @@ unsafe extern "C" fn monthly_price(
     tally: *mut u64,
     len: usize,
 ) -> PriceAnswer {
-    let reply = Lending(n, o, o_len, c, c_len).reply_with_tally(Call::MonthlyPrice, tally, len, vehicles);
-    PriceAnswer { code: reply.code, shortage: reply.shortage, items: reply.items, cents: reply.number }
+    price_answer(&Lending(n, o, o_len, c, c_len).reply_with_tally(Call::MonthlyPrice, tally, len, vehicles))
+}
+
+unsafe extern "C" fn count_plans_untallied(
+    n: usize,
+    o: *const u64,
+    o_len: usize,
+    c: *const u64,
+    c_len: usize,
+) -> CountAnswer {
+    count_answer(&Lending(n, o, o_len, c, c_len).reply(Call::CountPlansUntallied, None, |_| {}))
+}
+
+unsafe extern "C" fn grade_untallied(
+    n: usize,
+    o: *const u64,
+    o_len: usize,
+    c: *const u64,
+    c_len: usize,
+) -> GradeAnswer {
+    grade_answer(&Lending(n, o, o_len, c, c_len).reply(Call::GradeUntallied, None, |_| {}))
+}
+
+unsafe extern "C" fn monthly_price_untallied(
+    n: usize,
+    o: *const u64,
+    o_len: usize,
+    c: *const u64,
+    c_len: usize,
+    vehicles: u64,
+) -> PriceAnswer {
+    let lending = Lending(n, o, o_len, c, c_len);
+    price_answer(&lending.reply(Call::MonthlyPriceUntallied, None, |input| input.vehicles = vehicles))
 }
 
 unsafe extern "C" fn write_file(

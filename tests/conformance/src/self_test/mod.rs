@@ -11,6 +11,7 @@ mod wrong_cells;
 mod wrong_files;
 mod wrong_grades;
 mod wrong_sheets;
+mod wrong_untallied;
 
 use crate::parallel::{processors, spread};
 use crate::session::Session;
@@ -20,8 +21,8 @@ use std::process::ExitCode;
 
 const SEED: u64 = 1;
 
-/// The subjects that find wrong sheets, grades and prices; without a fault they find nothing.
-const FAULTLESS: [&str; 5] = ["refusals", "sheets", "apart", "prices", "brittle"];
+/// The subjects that find wrong sheets, grades, prices and counts without a tally; without a fault they find nothing.
+const FAULTLESS: [&str; 7] = ["refusals", "sheets", "apart", "prices", "brittle", "untallied", "untallied at bounds"];
 
 pub fn run() -> ExitCode {
     let compared = methods::run() + brittle::run();

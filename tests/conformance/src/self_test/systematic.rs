@@ -56,8 +56,8 @@ fn fields(call: Call) -> Vec<Field> {
             ("first slot", |reply| reply.plan[0] ^= 1),
             ("last byte of the plan", |reply| reply.plan[63] ^= 128),
         ],
-        CountPlans | ReadFile | WriteFile => vec![number],
-        Grade | MonthlyPrice => vec![number, shortage, items],
+        CountPlans | CountPlansUntallied | ReadFile | WriteFile => vec![number],
+        Grade | MonthlyPrice | GradeUntallied | MonthlyPriceUntallied => vec![number, shortage, items],
         UsableSlots | PlanSheet | FileFirstPlan | FileNextPlan | FileFewestCallouts => vec![],
     }
 }
@@ -76,6 +76,7 @@ fn other_fields(call: Call, code: u32, list: &mut Vec<Fault>) {
 fn buffers(call: Call) -> (usize, &'static [usize]) {
     match call {
         FirstPlan | NextPlan | FewestCallouts | CellPlan => (2, &[]),
+        CountPlansUntallied | GradeUntallied | MonthlyPriceUntallied => (2, &[]),
         ListPlan | UsableSlots | PlanSheet | CountPlans | Grade | MonthlyPrice | WriteFile => (3, &[2]),
         ReadFile => (3, &[1, 2]),
         FileFirstPlan | FileNextPlan | FileFewestCallouts => (2, &[1]),
@@ -118,6 +119,8 @@ fn exchanged_tests(call: Call, list: &mut Vec<Fault>) {
     for pair in pairs.into_iter().filter(|pair| ![10, 11].contains(&pair[1])) {
         let (one, other) = (pair[0], pair[1]);
         let name = format!("{}: {other} tested before {one}", call.name());
-        list.push(Fault { name, exchanged: Some((call, one, other)), ..Fault::none() });
+        let untallied = [CountPlansUntallied, GradeUntallied, MonthlyPriceUntallied].contains(&call);
+        let subject = untallied.then_some("untallied at bounds");
+        list.push(Fault { name, subject, exchanged: Some((call, one, other)), ..Fault::none() });
     }
 }

@@ -3,7 +3,7 @@
 use crate::checks::KnownFile;
 use crate::inputs::given;
 use crate::random::Random;
-use crate::reference::answers::GREATEST_COUNTED;
+use crate::reference::answers::{Call, Input, GREATEST_COUNTED};
 use crate::reference::rota_file::{blocks_for, BLOCK};
 use crate::reference::sheet::{self, LINE};
 use crate::reference::Known;
@@ -77,15 +77,28 @@ fn calls_on_tally(session: &mut Session, known: &Known, random: &mut Random) -> 
         n if n <= GREATEST_COUNTED => [0, 1, n, 1 << SMALL_TALLY, random.below(1 << SMALL_TALLY)],
         _ => [0, 1, 64, 1 << SMALL_TALLY, random.below(1 << SMALL_TALLY)],
     };
+    let mut fleets = vec![];
     for words in tallies {
         session.count_plans(known, words)?;
         session.grade(known, words)?;
         for _ in 0..2 {
             let vehicles = fleet(random);
             session.monthly_price(known, vehicles, words)?;
+            fleets.push(vehicles);
         }
     }
-    Ok(())
+    calls_without_tally(session, known, &fleets)
+}
+
+/// The calls without a tally, with the same fleets. Accepted rotas above a small tally are left to subjects of their own here too.
+fn calls_without_tally(session: &mut Session, known: &Known, fleets: &[u64]) -> Outcome {
+    let counted = Input::new(Call::CountPlansUntallied, known).refusal() == 0;
+    if counted && known.n() > SMALL_TALLY {
+        return Ok(());
+    }
+    session.count_untallied(known)?;
+    session.grade_untallied(known)?;
+    fleets.iter().try_for_each(|&vehicles| session.price_untallied(known, vehicles))
 }
 
 /// A fleet size at a bound, or any that is accepted.

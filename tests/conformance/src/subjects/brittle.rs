@@ -88,7 +88,10 @@ fn many_items(session: &mut Session, random: &mut Random) -> Outcome {
         let known = Known::new(Tables::new(n, &opens, &callouts));
         assert_eq!(pricing::grade(known.usable(), known.count()), grade, "cycles of {sizes:?}");
         session.grade(&known, 1 << n)?;
-        session.monthly_price(&known, 1 + random.below(10_000) as u64, 1 << n)?;
+        let vehicles = 1 + random.below(10_000) as u64;
+        session.monthly_price(&known, vehicles, 1 << n)?;
+        session.grade_untallied(&known)?;
+        session.price_untallied(&known, vehicles)?;
     }
     Ok(())
 }
@@ -100,7 +103,10 @@ fn every_table_of_four(session: &mut Session, random: &mut Random) -> Outcome {
         let callouts = opens.map(|open| open & random.word());
         let known = Known::new(Tables::new(4, &opens, &callouts));
         session.grade(&known, 16)?;
-        session.monthly_price(&known, battery::fleet(random), 16)?;
+        let vehicles = battery::fleet(random);
+        session.monthly_price(&known, vehicles, 16)?;
+        session.grade_untallied(&known)?;
+        session.price_untallied(&known, vehicles)?;
     }
     Ok(())
 }

@@ -1,4 +1,4 @@
-//! Count and tally up to 20 items, and 21.
+//! Count and tally up to 20 items, and 21; the same rotas without a tally.
 
 use super::battery;
 use crate::inputs::families::{self, Callouts, Family};
@@ -48,7 +48,14 @@ fn with_tallies(session: &mut Session, known: &Known, random: &mut Random) -> Ou
     session.grade(known, exact)?;
     let vehicles = battery::fleet(random);
     session.monthly_price(known, vehicles, exact - 1)?;
-    session.monthly_price(known, vehicles, exact + 3)
+    session.monthly_price(known, vehicles, exact + 3)?;
+    without_tally(session, known, vehicles)
+}
+
+fn without_tally(session: &mut Session, known: &Known, vehicles: u64) -> Outcome {
+    session.count_untallied(known)?;
+    session.grade_untallied(known)?;
+    session.price_untallied(known, vehicles)
 }
 
 /// Some words of the expected tally, counted by Ryser's formula.
@@ -70,9 +77,11 @@ fn beyond_twenty(session: &mut Session, random: &mut Random) -> Outcome {
             session.grade(&known, words)?;
             session.monthly_price(&known, 0, words)?;
         }
+        without_tally(session, &known, 0)?;
     }
     let known = Known::new(Tables::open(&[1; 21]));
     session.count_plans(&known, 1 << 21)?;
     session.grade(&known, 1 << 21)?;
-    session.monthly_price(&known, 1, 1 << 21)
+    session.monthly_price(&known, 1, 1 << 21)?;
+    without_tally(session, &known, 1)
 }

@@ -13,6 +13,7 @@ mod refusals;
 mod sheets;
 mod sizes;
 mod small;
+mod untallied;
 mod worked;
 
 use crate::random::Random;
@@ -20,7 +21,7 @@ use crate::session::{Outcome, Session};
 
 type Subject = fn(&mut Session, &mut Random) -> Outcome;
 
-const SUBJECTS: [(&str, Subject); 13] = [
+const SUBJECTS: [(&str, Subject); 15] = [
     ("worked", worked::run),
     ("refusals", refusals::run),
     ("small", small::run),
@@ -34,6 +35,8 @@ const SUBJECTS: [(&str, Subject); 13] = [
     ("damage", damage::run),
     ("sizes", sizes::run),
     ("counts", counts::run),
+    ("untallied", untallied::run),
+    ("untallied at bounds", untallied::bounds),
 ];
 
 /// All subjects once.

@@ -53,8 +53,10 @@ pub fn graded(session: &mut Session, opens: &[u64], random: &mut Random) -> Outc
         };
         let known = Known::new(Tables::new(n, opens, &callouts));
         session.grade(&known, 1 << n)?;
+        session.grade_untallied(&known)?;
         for vehicles in FLEETS {
             session.monthly_price(&known, vehicles, 1 << n)?;
+            session.price_untallied(&known, vehicles)?;
         }
     }
     Ok(())

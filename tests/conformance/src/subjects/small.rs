@@ -57,6 +57,7 @@ fn every_table_of_four(session: &mut Session, random: &mut Random) -> Outcome {
         session.fewest_callouts(&known, 4)?;
         session.usable_slots(&known, 4)?;
         session.count_plans(&known, 16)?;
+        session.count_untallied(&known)?;
     }
     Ok(())
 }
@@ -76,5 +77,8 @@ fn few_calls(session: &mut Session, known: &Known, random: &mut Random) -> Outco
     session.count_plans(known, 1 << known.n())?;
     session.grade(known, 1 << known.n())?;
     let vehicles = battery::fleet(random);
-    session.monthly_price(known, vehicles, 1 << known.n())
+    session.monthly_price(known, vehicles, 1 << known.n())?;
+    session.count_untallied(known)?;
+    session.grade_untallied(known)?;
+    session.price_untallied(known, vehicles)
 }

@@ -1,0 +1,5 @@
+mod Bytes
+mod RowSums
+mod Terms
+mod LeavingOut
+mod Tabling
