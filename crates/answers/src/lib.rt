@@ -1,8 +1,11 @@
-// The records that answer a call for a plan.
+// The records that answer a call for a plan; those for the grade and the price in modules of their own.
 ghost use mathlib.Core.Path.{_≡_};
 ghost use Rattle.model.specs.PlanAnswers.{given, refused, short, overCap};
 use model::Plan;
 use model::PlanAnswer;
+
+pub mod grades;
+pub mod prices;
 
 // Success, with a plan and the number of its callouts, or 0 where that is not asked for.
 pub fn given(slots: [u8; 64], callouts: u32) -> PlanAnswer

@@ -49,7 +49,7 @@ pub codes : Codes
 unfolding tableCode untalliedCount untalliedPriceCode countCode fileCode
 codes = search refl
 
--- the rules of the grade, the second argument saying whether some item has just one open slot; the rates' columns; the blocks
+-- the rules of the grade, the second argument saying whether some item is forced; the rates' columns; the blocks
 pub record Figures : Type 0 where
   pub rule-1 : gradeOf 1 true ≡ 1
   pub rule-2 : gradeOf 1000 true ≡ 5

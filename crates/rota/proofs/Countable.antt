@@ -14,7 +14,7 @@ use Rattle.model.specs.Count.{count}
 use Rattle.model.specs.Grade.{someForced, gradeOf, rotaGrade}
 use Rattle.model.specs.PlanAnswers.{firstFrom, firstOf, noPlan}
 use Rattle.model.specs.CountAnswers.{countRefused, countUnless, sizedCode}
-use Rattle.model.specs.PriceAnswers.{gradeBy, gradeRefused, gradeUnless}
+use Rattle.model.specs.PriceAnswers.{gradeGiven, gradeRefused, gradeShort, gradeBy, gradeUnless}
 use Rattle.model.proofs.Refusals.{sized-passed, refused-answer, accepted-answer}
 use Rattle.model.proofs.Slots.{first-wide, forced-wide}
 use Rattle.rota.proofs.TableCalls.{Passed}
@@ -69,10 +69,10 @@ module _ {n m : ℕ} {opens callouts : List ℕ} {code : ℕ} (able : Countable 
     says : TellsCount m opens a
     says = first-says m opens a (ea ∙ first-wide n m opens callouts (able .passed .code) (able .passed .slots))
 
-    pub grade-none : a .code ≢ 0 → record { code = a .code; grade = 0; shortage = a .shortage; items = a .items } ≡ gradeUnless code m opens
+    pub grade-none : a .code ≢ 0 → gradeShort (a .shortage) (a .items) ≡ gradeUnless code m opens
     unfolding noPlan gradeBy
     grade-none d =
-        let short : PlanAnswer → GradeAnswer = λ x. record { code = x .code; grade = 0; shortage = x .shortage; items = x .items } in
+        let short : PlanAnswer → GradeAnswer = λ x. gradeShort (x .shortage) (x .items) in
         let by : ℕ → GradeAnswer = λ k. gradeBy opens k (rotaGrade m opens) in
         ap short (says .none d .0) ∙ sym (ap by (says .none d .1)) ∙ graded
 
@@ -80,13 +80,12 @@ module _ {n m : ℕ} {opens callouts : List ℕ} {code : ℕ} (able : Countable 
       pub some-plan : 0 < number
       some-plan = subst (0 <_) (sym q) (says .some y)
 
-      pub grade-done : {g : ℕ} → g ≡ gradeOf number (someForced 64 opens)
-          → record { code = 0; grade = g; shortage = 0; items = 0 } ≡ gradeUnless code m opens
+      pub grade-done : {g : ℕ} → g ≡ gradeOf number (someForced 64 opens) → gradeGiven g ≡ gradeUnless code m opens
       unfolding gradeBy rotaGrade
       grade-done {g} eg =
           let forced = forced-wide n m opens callouts (able .passed .code) (able .passed .slots) in
           go (count m opens) (says .some y) ∙ ap (gradeBy opens (count m opens)) (eg ∙ ap₂ gradeOf q forced) ∙ graded
         where
-          go : (k : ℕ) → 0 < k → record { code = 0; grade = g; shortage = 0; items = 0 } ≡ gradeBy opens k g
+          go : (k : ℕ) → 0 < k → gradeGiven g ≡ gradeBy opens k g
           go zero h = absurd (omega arith)
           go (suc k) h = refl

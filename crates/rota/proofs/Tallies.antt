@@ -35,14 +35,15 @@ module _ (n m : ℕ) (opens callouts tally : List ℕ) {new : List ℕ} where
   unfolding countAnswer countTally
   counts q f = (q, f ∙ ap (λ (x : CountAnswer). written (x .code) (subsetCounts m opens) tally) q)
 
-  pub grades : {a : GradeAnswer} → a ≡ gradeUnless (countCode n m opens callouts (length tally)) m opens
+  pub grades : {r a : GradeAnswer} → r ≡ a → a ≡ gradeUnless (countCode n m opens callouts (length tally)) m opens
       → new ≡ written (a .code) (subsetCounts m opens) tally
-      → (a ≡ gradeAnswer n m opens callouts (length tally)) × (new ≡ gradeTally n m opens callouts tally)
+      → (r ≡ gradeAnswer n m opens callouts (length tally)) × (new ≡ gradeTally n m opens callouts tally)
   unfolding gradeAnswer gradeTally
-  grades q f = (q, f ∙ ap (λ (x : GradeAnswer). written (x .code) (subsetCounts m opens) tally) q)
+  grades e q f = (e ∙ q, f ∙ ap (λ (x : GradeAnswer). written (x .code) (subsetCounts m opens) tally) q)
 
-  pub prices : (vehicles : ℕ) {a : PriceAnswer} → a ≡ priceUnless (priceCode n m opens callouts vehicles (length tally)) m opens callouts vehicles
+  pub prices : (vehicles : ℕ) {r a : PriceAnswer} → r ≡ a
+      → a ≡ priceUnless (priceCode n m opens callouts vehicles (length tally)) m opens callouts vehicles
       → new ≡ written (a .code) (subsetCounts m opens) tally
-      → (a ≡ priceAnswer n m opens callouts vehicles (length tally)) × (new ≡ priceTally n m opens callouts vehicles tally)
+      → (r ≡ priceAnswer n m opens callouts vehicles (length tally)) × (new ≡ priceTally n m opens callouts vehicles tally)
   unfolding priceAnswer priceTally
-  prices vehicles q f = (q, f ∙ ap (λ (x : PriceAnswer). written (x .code) (subsetCounts m opens) tally) q)
+  prices vehicles e q f = (e ∙ q, f ∙ ap (λ (x : PriceAnswer). written (x .code) (subsetCounts m opens) tally) q)

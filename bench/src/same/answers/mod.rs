@@ -1,4 +1,7 @@
-//! The records that answer a call for a plan.
+//! The records that answer a call for a plan; those for the grade and the price in modules of their own.
+
+pub mod grades;
+pub mod prices;
 
 use crate::records::{Plan, PlanAnswer};
 
