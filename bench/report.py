@@ -61,7 +61,7 @@ def result(times, peers, stack):
     others = rows(times["A cell that is not open, n = 64, random 6 and a plan, µs a call"])
     counting = rows(times["Counting, n = 20, µs a call"])
     plan, fewest = rows(peers["A plan, µs a call"]), rows(peers["The fewest callouts, µs a call"])
-    count = [row for row in rows(peers["The number of plans, µs a call"]) if row[0] == "20"]
+    count, count_untallied = ([row for row in rows(peers[f"The number of plans{form}, µs a call"]) if row[0] == "20"] for form in ("", " without a tally"))
     untallied = rows(times["Counting without a tally, n = 20, µs a call"])
     most = max(int(row[2]) for row in stack)
     if most >= STACK_LIMIT:
@@ -82,7 +82,8 @@ def result(times, peers, stack):
         f"{span(ratios(plans20, 5))} at 20, and {span(ratios(counting, 3))} to count.",
         f"- Instead of a plan igraph or LEMON, which answer less, take {whole(factors(plan, [3, 5]))} times as long "
         f"({whole(factors(plan, [4, 6]))} with a graph built before); for the fewest callouts {whole(factors(fewest, [3, 5, 7]))} "
-        f"({whole(factors(fewest, [4, 6, 8]))}); PARI for the count {whole(factors(count, [4]))}.",
+        f"({whole(factors(fewest, [4, 6, 8]))}); PARI for the count {whole(factors(count, [4]))}, "
+        f"for the one without a tally {whole(factors(count_untallied, [4]))}.",
         f"- No call took more than {most:,} bytes of stack, none without a tally more than {most_untallied:,}.",
     ])
 

@@ -50,6 +50,13 @@ struct CountPlans {
     }
 };
 
+struct CountPlansUntallied {
+    static unsigned long answer(size_t n, const bench_rota &rota)
+    {
+        return rota_count_plans_untallied(TABLES).count;
+    }
+};
+
 // One row: the passes over the first rotas of a family, the library's first.
 template <class Call> class Row {
 public:
@@ -158,13 +165,13 @@ void fewest(const bench_rotas &all)
     }
 }
 
-void permanents(const bench_rotas &all)
+template <class Call> void permanents(const bench_rotas &all, const char *title, const char *call)
 {
-    heading("The number of plans", "`count_plans`", {"PARI"});
+    heading(title, call, {"PARI"});
     for (const size_t n : {12, 16, 20}) {
         for (const char *name : {DENSE, "random 6 and a plan"}) {
-            Row<CountPlans> row(*bench_find(&all, n, name), 1);
-            row.beside<PariPermanent>("PARI");
+            Row<Call> row(*bench_find(&all, n, name), 1);
+            row.template beside<PariPermanent>("PARI");
             row.print();
         }
     }
@@ -180,6 +187,7 @@ int main(int argc, char **argv)
     std::printf("Peers: igraph %s, LEMON %s, PARI %s\n", IGRAPH_VERSION, LEMON_VERSION, PariPermanent::version().c_str());
     matchings(all);
     fewest(all);
-    permanents(all);
+    permanents<CountPlans>(all, "The number of plans", "`count_plans`");
+    permanents<CountPlansUntallied>(all, "The number of plans without a tally", "`count_plans_untallied`");
     return 0;
 }

@@ -1,9 +1,8 @@
--- Bytes side by side: what they add up to and multiply to, and the test for a byte that is 0. Assumes nothing.
+-- Bytes side by side: what they add up to, and the test for a byte that is 0. Assumes nothing.
 use mathlib.Core.Path.{_≡_, refl, sym, ap, ap₂, _∙_}
 use mathlib.Core.Bool.{not, _||_}
 use mathlib.Core.List.{List, [], _∷_, map}
 use Prim.Native.Nat.{ℕ, zero, suc, _+_, _-_, _*_, _/_, _%_, _^_, _≤_, _<_}
-use native.Mathlib.Nat.{mul-le-mul, div-add-mod'}
 use native.Mathlib.Decide.{ℕ-discrete}
 use native.Mathlib.Omega.{arith}
 use borrow.Author.Tests.{eq-eqb, ne-eqb}
@@ -12,7 +11,7 @@ use lib.Dec.{eqb}
 use lib.ListN.{length}
 use lib.Pow.{pow-add}
 use Rattle.model.specs.Lists.{any}
-use Rattle.ryser.specs.Bytes.{packed, bytes, multiplied, someZero, Small}
+use Rattle.ryser.specs.Bytes.{packed, bytes, someZero, Small}
 
 -- ---- packed and taken apart
 
@@ -36,45 +35,17 @@ bytes-packed (b ∷ l) s =
     let high : (b + 256 * packed l) / 256 ≡ packed l = omega (arith, s .0) in
     ap₂ _∷_ low (ap (bytes (length l)) high ∙ bytes-packed l (s .1))
 
--- ---- products
-
--- seven factors as a tree
-pub record Tree (a b c d e f g : ℕ) : Type 0 where
-  pub ab : a * b ≤ 400
-  pub cd : c * d ≤ 400
-  pub abcd : a * b * (c * d) ≤ 160000
-  pub ef : e * f ≤ 400
-  pub efg : e * f * g ≤ 8000
-  pub all : a * b * (c * d) * (e * f * g) ≤ 1280000000
-  pub same : a * b * (c * d) * (e * f * g) ≡ multiplied (a ∷ b ∷ c ∷ d ∷ e ∷ f ∷ g ∷ [])
-
-pub tree : (a b c d e f g : ℕ) → Small (a ∷ b ∷ c ∷ d ∷ e ∷ f ∷ g ∷ []) → Tree a b c d e f g
-unfolding multiplied
-tree a b c d e f g s =
-    let t = s .1 .1 .1 .1 in
-    let ab : a * b ≤ 400 = mul-le-mul (s .0) (s .1 .0) in
-    let cd : c * d ≤ 400 = mul-le-mul (s .1 .1 .0) (s .1 .1 .1 .0) in
-    let ef : e * f ≤ 400 = mul-le-mul (t .0) (t .1 .0) in
-    let abcd : a * b * (c * d) ≤ 160000 = mul-le-mul ab cd in
-    let efg : e * f * g ≤ 8000 = mul-le-mul ef (t .1 .1 .0) in
-    record { ab = ab; cd = cd; abcd = abcd; ef = ef; efg = efg; all = mul-le-mul abcd efg; same = omega arith }
-
-apart : (k p c : ℕ) → p * c ≡ p / k * c * k + p % k * c
-apart k p c = ap (_* c) (sym (div-add-mod' p k)) ∙ omega arith
-
-pub times-is : (p c : ℕ) → (p % 4294967296 * c + p / 4294967296 * c * 2 ^ 32 % 2 ^ 64) % 2 ^ 64 ≡ p * c % 2 ^ 64
-times-is p c = omega (arith, apart 4294967296 p c)
-
 -- ---- no byte is 0
 
--- 127 in each of k bytes, and the top bit of each
-unfoldable pub sevens : ℕ → ℕ
-sevens zero = 0
-sevens (suc k) = 127 + 256 * sevens k
+-- c in each of k bytes
+unfoldable pub each : ℕ → ℕ → ℕ
+each c zero = 0
+each c (suc k) = c + 256 * each c k
 
-unfoldable pub tops : ℕ → ℕ
-tops zero = 0
-tops (suc k) = 128 + 256 * tops k
+-- 127 can be added to each byte
+pub room : (x : ℕ) → x < 2 ^ 64 → Small (bytes 8 x) → x + each 127 8 < 2 ^ 64
+unfolding bytes each
+room x h s = omega (arith, s .1 .1 .1 .1 .1 .1 .1 .0)
 
 same-above : (a b r : ℕ) → eqb (a * 256 + r) (b * 256 + r) ≡ eqb a b
 same-above a b r = elim (ℕ-discrete a b) [
@@ -82,24 +53,24 @@ same-above a b r = elim (ℕ-discrete a b) [
   | no d ↦ ne-eqb _ _ (λ (e : a * 256 + r ≡ b * 256 + r). d (omega arith)) ∙ sym (ne-eqb a b d)
 ]
 
-pub full-bytes : (k x : ℕ) → Small (bytes k x) → eqb (bitAnd (x + sevens k) (tops k)) (tops k) ≡ not (someZero (bytes k x))
-unfolding bytes any sevens tops
+pub full-bytes : (k x : ℕ) → Small (bytes k x) → eqb (bitAnd (x + each 127 k) (each 128 k)) (each 128 k) ≡ not (someZero (bytes k x))
+unfolding bytes any each
 full-bytes zero x s = ap (λ y. eqb y 0) (and-zero-r (x + 0))
 full-bytes (suc k) x s =
     let y = x / 256 in
     let b = x % 256 in
-    let left : x + sevens (suc k) ≡ (y + sevens k) * 2 ^ 8 + (b + 127) = omega arith in
-    let right : tops (suc k) ≡ tops k * 2 ^ 8 + 128 = omega arith in
-    let both = ap₂ bitAnd left right ∙ and-block 8 (y + sevens k) (tops k) (b + 127) 128 (omega (arith, s .0)) (omega arith) in
+    let left : x + each 127 (suc k) ≡ (y + each 127 k) * 2 ^ 8 + (b + 127) = omega arith in
+    let right : each 128 (suc k) ≡ each 128 k * 2 ^ 8 + 128 = omega arith in
+    let both = ap₂ bitAnd left right ∙ and-block 8 (y + each 127 k) (each 128 k) (b + 127) 128 (omega (arith, s .0)) (omega arith) in
     ap₂ eqb both right ∙ go (ℕ-discrete b 0) (full-bytes k y (s .1))
   where
-    go : Dec (x % 256 ≡ 0) → eqb (bitAnd (x / 256 + sevens k) (tops k)) (tops k) ≡ not (someZero (bytes k (x / 256)))
-        → eqb (bitAnd (x / 256 + sevens k) (tops k) * 256 + bitAnd (x % 256 + 127) 128) (tops k * 256 + 128)
+    go : Dec (x % 256 ≡ 0) → eqb (bitAnd (x / 256 + each 127 k) (each 128 k)) (each 128 k) ≡ not (someZero (bytes k (x / 256)))
+        → eqb (bitAnd (x / 256 + each 127 k) (each 128 k) * 256 + bitAnd (x % 256 + 127) 128) (each 128 k * 256 + 128)
         ≡ not (eqb (x % 256) 0 || someZero (bytes k (x / 256)))
-    go (yes z) ih = rw z (ne-eqb _ _ (λ (e : bitAnd (x / 256 + sevens k) (tops k) * 256 + 0 ≡ tops k * 256 + 128). omega arith))
+    go (yes z) ih = rw z (ne-eqb _ _ (λ (e : bitAnd (x / 256 + each 127 k) (each 128 k) * 256 + 0 ≡ each 128 k * 256 + 128). omega arith))
     go (no d) ih =
         let b = x % 256 in
         let some : b + 127 ≡ 1 * 2 ^ 7 + (b - 1) = omega (arith, d) in
         let top : bitAnd (b + 127) 128 ≡ 128 =
         ap (λ y. bitAnd y 128) some ∙ and-block 7 1 1 (b - 1) 0 (omega (arith, s .0)) (omega arith) ∙ ap (128 +_) (and-zero-r (b - 1)) in
-        rw (top, ne-eqb (x % 256) 0 d) (same-above (bitAnd (x / 256 + sevens k) (tops k)) (tops k) 128 ∙ ih)
+        rw (top, ne-eqb (x % 256) 0 d) (same-above (bitAnd (x / 256 + each 127 k) (each 128 k)) (each 128 k) 128 ∙ ih)

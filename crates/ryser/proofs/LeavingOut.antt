@@ -16,25 +16,26 @@ use Rattle.model.specs.Lists.{any}
 use Rattle.model.specs.Ryser.{setProduct}
 use Rattle.ryser.specs.Bytes.{bytes, multiplied, someZero, Small}
 use Rattle.ryser.specs.RowSums.{rowSum, rowSums, column, terms, IsSum, Underway, SignedSum}
-use Rattle.ryser.proofs.RowSums.{sums-less, sums-bytes, sums-small, sums-lt, sums-product}
+use Rattle.ryser.proofs.RowSums.{sums-less, sums-bytes, sums-small, sums-product}
 use Rattle.ryser.proofs.Terms.{lows-fewer, lows-without, terms-none, terms-step, terms-zero, signed-turn}
 
 -- ---- the words
 
-abbrev pub Word : ℕ → Type 0
-Word x = (x < 2 ^ 56) × Small (bytes 7 x)
-
 module _ {columns : List ℕ} {j x y z : ℕ} (u : Underway columns j x y z) where
-  word : {w : ℕ} (k : ℕ) → w ≡ rowSums (u .opens) (u .set) k → Word w
-  word k e = rw e (sums-lt (u .opens) (u .set) (u .small) k, sums-small (u .opens) (u .set) (u .small) k)
+  word : {w : ℕ} (k : ℕ) → w ≡ rowSums (u .opens) (u .set) k → Small (bytes 8 w)
+  word k e = rw e (sums-small (u .opens) (u .set) (u .small) k)
 
   pub few-slots : j ≤ 20
   few-slots = elim (decLt 20 j) [ yes l ↦ absurd (omega (arith, u .lows 20 l, bit-high 20 (u .set) 20 (u .small) (omega arith))) | no l ↦ omega arith ]
 
-  pub words : Word x × Word y × Word z
+  pub words : Small (bytes 8 x) × Small (bytes 8 y) × Small (bytes 8 z)
   words = (word 0 (u .first), word 1 (u .second), word 2 (u .third))
 
-  pub product-is : multiplied (bytes 7 x) * multiplied (bytes 7 y) * multiplied (bytes 7 z) ≡ setProduct (u .opens) (u .set)
+  pub last-four : Small (bytes 4 z)
+  unfolding bytes
+  last-four = let s = words .2 in (s .0, (s .1 .0, (s .1 .1 .0, (s .1 .1 .1 .0, tt))))
+
+  pub product-is : multiplied (bytes 8 x) * multiplied (bytes 8 y) * multiplied (bytes 4 z) ≡ setProduct (u .opens) (u .set)
   product-is = rw (u .first, u .second, u .third) (sums-product (u .opens) (u .set) (u .few) (u .small))
 
   -- ---- a slot left out
@@ -80,12 +81,12 @@ zero-byte f [] e = absurd (subst T (sym e) tt)
 zero-byte f (i ∷ l) e = elim (ℕ-discrete (f i) 0) [ yes z ↦ (i, z) | no d ↦ zero-byte f l (sym (ap (_|| someZero (map f l)) (ne-eqb (f i) 0 d)) ∙ e) ]
 
 module _ {columns : List ℕ} {j x y z : ℕ} (u : Underway columns j x y z) where
-  none-left : (k : ℕ) {w : ℕ} → w ≡ rowSums (u .opens) (u .set) k → someZero (bytes 7 w) ≡ true → (i : ℕ) × (rowSum (u .opens) (u .set) i ≡ 0)
+  none-left : (k : ℕ) {w : ℕ} → w ≡ rowSums (u .opens) (u .set) k → someZero (bytes 8 w) ≡ true → (i : ℕ) × (rowSum (u .opens) (u .set) i ≡ 0)
   none-left k e q =
-      zero-byte (rowSum (u .opens) (u .set)) (upFrom (7 * k) 7)
-      (sym (ap someZero (ap (bytes 7) e ∙ sums-bytes (u .opens) (u .set) (u .small) k)) ∙ q)
+      zero-byte (rowSum (u .opens) (u .set)) (upFrom (8 * k) 8)
+      (sym (ap someZero (ap (bytes 8) e ∙ sums-bytes (u .opens) (u .set) (u .small) k)) ∙ q)
 
-  no-terms : (k : ℕ) {w : ℕ} → w ≡ rowSums (u .opens) (u .set) k → false ≡ not (someZero (bytes 7 w))
+  no-terms : (k : ℕ) {w : ℕ} → w ≡ rowSums (u .opens) (u .set) k → false ≡ not (someZero (bytes 8 w))
       → IsSum j (u .opens) (u .set) 0
   no-terms k {w} e n =
       let i = none-left k e (flip _ n) in
@@ -99,7 +100,7 @@ module _ {columns : List ℕ} {j x y z : ℕ} (u : Underway columns j x y z) whe
 
 -- a byte is 0: every term is
 pub nothing-left : (columns : List ℕ) (j x y z : ℕ) (p q r : Bool) → ((p && q) && r) ≡ false
-    → p ≡ not (someZero (bytes 7 x)) → q ≡ not (someZero (bytes 7 y)) → r ≡ not (someZero (bytes 7 z))
+    → p ≡ not (someZero (bytes 8 x)) → q ≡ not (someZero (bytes 8 y)) → r ≡ not (someZero (bytes 8 z))
     → SignedSum columns j x y z 0
 nothing-left columns j x y z false q r e ep eq er u = no-terms u 0 (u .first) ep
 nothing-left columns j x y z true false r e ep eq er u = no-terms u 1 (u .second) eq
@@ -113,7 +114,7 @@ pub record Partly (columns : List ℕ) (j x y z k sum : ℕ) : Type 0 where
   pub below : k ≤ j
   pub sums : (u : Underway columns j x y z) → IsSum k (u .opens) (u .set) sum
 
-pub partly-start : (columns : List ℕ) (j x y z : ℕ) {sum : ℕ} → sum ≡ multiplied (bytes 7 x) * multiplied (bytes 7 y) * multiplied (bytes 7 z) % 2 ^ 64
+pub partly-start : (columns : List ℕ) (j x y z : ℕ) {sum : ℕ} → sum ≡ multiplied (bytes 8 x) * multiplied (bytes 8 y) * multiplied (bytes 4 z) % 2 ^ 64
     → Partly columns j x y z 0 sum
 partly-start columns j x y z e = record {
   below = omega arith;

@@ -1,4 +1,5 @@
 mod Bytes
+mod Products
 mod RowSums
 mod Terms
 mod LeavingOut

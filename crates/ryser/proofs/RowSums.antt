@@ -9,7 +9,7 @@ use native.Mathlib.Omega.{arith}
 use borrow.Author.Tests.{lt-ltb, le-ltb}
 use lib.Bits.{bitAnd, and-le-r}
 use lib.Count.{ones, ones-le}
-use lib.ListN.{length, getD, length-map, List·getD-eq-default}
+use lib.ListN.{length, getD, take, length-map, List·getD-eq-default}
 use lib.Pow.{pow-mono}
 use Rattle.words.specs.Word.{bit, without}
 use Rattle.words.specs.Sum.{upFrom}
@@ -50,8 +50,8 @@ module _ (opens : List ℕ) (set j : ℕ) (e : bit set j ≡ 1) where
   pub sums-less : (k : ℕ) → rowSums opens set k ≡ rowSums opens (without set j) k + column opens j k
   unfolding rowSums column
   sums-less k =
-      ap (λ f. packed (map f (upFrom (7 * k) 7))) (fun-ext row-sum-less)
-      ∙ packed-add (rowSum opens (without set j)) (λ i. bit (getD opens i 0) j) (upFrom (7 * k) 7)
+      ap (λ f. packed (map f (upFrom (8 * k) 8))) (fun-ext row-sum-less)
+      ∙ packed-add (rowSum opens (without set j)) (λ i. bit (getD opens i 0) j) (upFrom (8 * k) 8)
 
 pub sums-single : (opens : List ℕ) (j k : ℕ) → rowSums opens (2 ^ j) k ≡ rowSums opens 0 k + column opens j k
 sums-single opens j k =
@@ -72,56 +72,60 @@ module _ (opens : List ℕ) (set : ℕ) (h : set < 2 ^ 20) where
   small-sums (i ∷ l) = (row-sum-le i, small-sums l)
 
   -- word k's bytes
-  pub sums-bytes : (k : ℕ) → bytes 7 (rowSums opens set k) ≡ map (rowSum opens set) (upFrom (7 * k) 7)
+  pub sums-bytes : (k : ℕ) → bytes 8 (rowSums opens set k) ≡ map (rowSum opens set) (upFrom (8 * k) 8)
   unfolding rowSums upFrom
-  sums-bytes k = bytes-packed (map (rowSum opens set) (upFrom (7 * k) 7)) (small-sums (upFrom (7 * k) 7))
+  sums-bytes k = bytes-packed (map (rowSum opens set) (upFrom (8 * k) 8)) (small-sums (upFrom (8 * k) 8))
 
-  pub sums-small : (k : ℕ) → Small (bytes 7 (rowSums opens set k))
-  sums-small k = rw (sums-bytes k) (small-sums (upFrom (7 * k) 7))
+  -- the last items'
+  pub four-bytes : bytes 4 (rowSums opens set 2) ≡ map (rowSum opens set) (upFrom 16 4)
+  unfolding bytes upFrom
+  four-bytes = ap (take 4) (sums-bytes 2)
 
-  sums-fit : (a n : ℕ) → n ≤ 7 → packed (map (rowSum opens set) (upFrom a n)) < 2 ^ 56
-  sums-fit a n l =
-      let size : 8 * length (map (rowSum opens set) (upFrom a n)) ≤ 56 = omega (arith, length-map (upFrom a n) (rowSum opens set), length-upFrom a n) in
+  pub sums-small : (k : ℕ) → Small (bytes 8 (rowSums opens set k))
+  sums-small k = rw (sums-bytes k) (small-sums (upFrom (8 * k) 8))
+
+  sums-lt : (a n w : ℕ) → 8 * n ≤ w → packed (map (rowSum opens set) (upFrom a n)) < 2 ^ w
+  sums-lt a n w l =
+      let size : 8 * length (map (rowSum opens set) (upFrom a n)) ≤ w = omega (arith, length-map (upFrom a n) (rowSum opens set), length-upFrom a n) in
       lt-of-lt-of-le (packed-lt (map (rowSum opens set) (upFrom a n)) (small-sums (upFrom a n))) (pow-mono size)
-
-  pub sums-lt : (k : ℕ) → rowSums opens set k < 2 ^ 56
-  unfolding rowSums
-  sums-lt k = sums-fit (7 * k) 7 (omega arith)
 
 -- ---- packed from the last to the first
 
--- x has the sums of items 7k + i to 7k + 6
+-- x has the sums of items 8k + i to 8k + 7
 pub record Summed (opens : List ℕ) (set k i x : ℕ) : Type 0 where
-  pub in-word : i ≤ 7
-  pub sums : x ≡ packed (map (rowSum opens set) (upFrom (7 * k + i) (7 - i)))
-  pub fits : x < 2 ^ 56
+  pub in-word : i ≤ 8
+  pub sums : x ≡ packed (map (rowSum opens set) (upFrom (8 * k + i) (8 - i)))
+  pub bits : x < 2 ^ (8 * (8 - i))
 
-pub summed-none : (opens : List ℕ) (set k : ℕ) → Summed opens set k 7 0
+pub summed-none : (opens : List ℕ) (set k : ℕ) → Summed opens set k 8 0
 unfolding packed upFrom
-summed-none opens set k = record { in-word = omega arith; sums = refl; fits = omega arith }
+summed-none opens set k = record { in-word = omega arith; sums = refl; bits = omega arith }
 
 module _ {opens : List ℕ} {set k i x : ℕ} (S : Summed opens set k i x) where
-  pub summed-more : set < 2 ^ 20 → 0 < i → {b : ℕ} → b ≡ rowSum opens set (7 * k + (i - 1)) → Summed opens set k (i - 1) (x * 256 + b)
+  pub summed-lt : (w : ℕ) → 8 * (8 - i) ≤ w → x < 2 ^ w
+  summed-lt w l = lt-of-lt-of-le (S .bits) (pow-mono l)
+
+  pub summed-more : set < 2 ^ 20 → 0 < i → {b : ℕ} → b ≡ rowSum opens set (8 * k + (i - 1)) → Summed opens set k (i - 1) (x * 256 + b)
   unfolding packed upFrom
   summed-more h l {b} e =
-      let a = 7 * k + (i - 1) in
-      let n = 7 - i in
-      let next : 7 * k + i ≡ suc a = omega arith in
-      let more : 7 - (i - 1) ≡ suc n = omega arith in
+      let a = 8 * k + (i - 1) in
+      let n = 8 - i in
+      let next : 8 * k + i ≡ suc a = omega arith in
+      let more : 8 - (i - 1) ≡ suc n = omega arith in
       let f = rowSum opens set in
       let rest : x ≡ packed (map f (upFrom (suc a) n)) = S .sums ∙ ap (λ y. packed (map f (upFrom y n))) next in
       let whole : x * 256 + b ≡ packed (map f (upFrom a (suc n))) = omega (arith, rest, e) in
       record {
         in-word = omega (arith, S .in-word);
         sums = whole ∙ ap (λ y. packed (map f (upFrom a y))) (sym more);
-        fits = rw whole (sums-fit opens set h a (suc n) (omega arith));
+        bits = rw whole (sums-lt opens set h a (suc n) (8 * (8 - (i - 1))) (omega arith));
       }
 
 pub summed-all : {opens : List ℕ} {set k i x : ℕ} → Summed opens set k i x → i ≤ 0 → x ≡ rowSums opens set k
 unfolding rowSums
 summed-all {opens} {set} {k} {i} S h =
-    let at : 7 * k + i ≡ 7 * k = omega arith in
-    let all : 7 - i ≡ 7 = omega arith in
+    let at : 8 * k + i ≡ 8 * k = omega arith in
+    let all : 8 - i ≡ 8 = omega arith in
     S .sums ∙ ap₂ (λ a n. packed (map (rowSum opens set) (upFrom a n))) at all
 
 -- ---- their product
@@ -158,18 +162,18 @@ module _ (f : ℕ → ℕ) where
 
 -- the product over the items is that of the three words' bytes
 pub sums-product : (opens : List ℕ) (set : ℕ) → length opens ≤ 20 → set < 2 ^ 20
-    → multiplied (bytes 7 (rowSums opens set 0)) * multiplied (bytes 7 (rowSums opens set 1)) * multiplied (bytes 7 (rowSums opens set 2))
+    → multiplied (bytes 8 (rowSums opens set 0)) * multiplied (bytes 8 (rowSums opens set 1)) * multiplied (bytes 4 (rowSums opens set 2))
     ≡ setProduct opens set
 sums-product opens set few h =
     let f = rowSum opens set in
     let n = length opens in
-    let rest : n + (21 - n) ≡ 21 = omega arith in
-    rw (sums-bytes opens set h 0, sums-bytes opens set h 1, sums-bytes opens set h 2)
-    (ap (_* productOf f 14 7) (sym (product-split f 0 7 7)) ∙ sym (product-split f 0 14 7)
-    ∙ ap (productOf f 0) (sym rest) ∙ product-split f 0 n (21 - n)
+    let rest : n + (20 - n) ≡ 20 = omega arith in
+    rw (sums-bytes opens set h 0, sums-bytes opens set h 1, four-bytes opens set h)
+    (ap (_* productOf f 16 4) (sym (product-split f 0 8 8)) ∙ sym (product-split f 0 16 4)
+    ∙ ap (productOf f 0) (sym rest) ∙ product-split f 0 n (20 - n)
     ∙ ap₂ _*_
     (product-items f set 0 opens (λ i l. ap f (zero-add i) ∙ row-sum-in opens set i l))
-    (product-ones f (0 + n) (21 - n) (λ i l. row-sum-beyond opens set i (omega arith)))
+    (product-ones f (0 + n) (20 - n) (λ i l. row-sum-beyond opens set i (omega arith)))
     ∙ omega arith)
 
 -- a row without a slot

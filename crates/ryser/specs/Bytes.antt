@@ -19,6 +19,10 @@ unfoldable pub multiplied : List ℕ → ℕ
 multiplied [] = 1
 multiplied (b ∷ l) = b * multiplied l
 
+-- bytes 0 and 2 of x and bytes 0 and 4 of y, multiplied
+abbrev pub quad : ℕ → ℕ → ℕ
+quad x y = x % 256 * (y % 256) * (x / 65536 % 256 * (y / 4294967296 % 256))
+
 -- some number is 0
 abbrev pub someZero : List ℕ → Bool
 someZero l = any (λ b. eqb b 0) l
@@ -27,3 +31,7 @@ someZero l = any (λ b. eqb b 0) l
 abbrev pub Small : List ℕ → Type 0
 Small [] = Unit {0}
 Small (b ∷ l) = (b ≤ 20) × Small l
+
+-- of the bytes of `quad` too
+abbrev pub SmallQuad : ℕ → ℕ → Type 0
+SmallQuad x y = Small ((x % 256) ∷ (x / 65536 % 256) ∷ (y % 256) ∷ (y / 4294967296 % 256) ∷ [])

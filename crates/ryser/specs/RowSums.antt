@@ -1,4 +1,4 @@
--- The sums of the rows, seven items a word, and what is left of Ryser's formula while the slots below j are still to be settled. Assumes nothing.
+-- The sums of the rows, eight items a word, and what is left of Ryser's formula while the slots below j are still to be settled. Assumes nothing.
 use mathlib.Core.Path.{_≡_}
 use mathlib.Core.Bool.{cond}
 use mathlib.Core.List.{List, map}
@@ -16,15 +16,15 @@ use Rattle.ryser.specs.Bytes.{packed}
 unfoldable pub rowSum : List ℕ → ℕ → ℕ → ℕ
 rowSum opens set i = cond (ltb i (length opens)) (ones (bitAnd (getD opens i 0) set)) 1
 
--- the sums of items 7k to 7k + 6
+-- the sums of items 8k to 8k + 7
 unfoldable pub rowSums : List ℕ → ℕ → ℕ → ℕ
 unfolding packed rowSum upFrom
-rowSums opens set k = packed (map (rowSum opens set) (upFrom (7 * k) 7))
+rowSums opens set k = packed (map (rowSum opens set) (upFrom (8 * k) 8))
 
 -- what slot j adds to them
 unfoldable pub column : List ℕ → ℕ → ℕ → ℕ
 unfolding packed upFrom bit
-column opens j k = packed (map (λ i. bit (getD opens i 0) j) (upFrom (7 * k) 7))
+column opens j k = packed (map (λ i. bit (getD opens i 0) j) (upFrom (8 * k) 8))
 
 -- the terms of one side, of `set` and of the sets that lack slots below j besides: they have its slots from j on, and any of those below j
 unfoldable pub terms : ℕ → ℕ → List ℕ → ℕ → ℕ

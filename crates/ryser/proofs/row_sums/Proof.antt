@@ -2,7 +2,7 @@
 use Prim.Native.Nat.{_+_, _-_, _*_}
 use native.Mathlib.Omega.{arith}
 use borrow.Author.Needs.{needs}
-use Rattle.ryser.proofs.RowSums.{Summed, summed-none, summed-more, summed-all}
+use Rattle.ryser.proofs.RowSums.{Summed, summed-none, summed-lt, summed-more, summed-all}
 use Rattle.ryser.proofs.row_sums.Statement.{statement}
 use Rattle.ryser.proofs.row_sums.Tie as tie
 
@@ -22,11 +22,11 @@ pub row-sums-spec : {M : Type 1} → statement M
 row-sums-spec = tie.close (tie.spec Inv-loop μ-loop
     (λ c. summed-none _ _ _)
     (λ c. omega (arith, c .loop-test .taken))
-    (λ c. omega (arith, c .before .loop .inv .fits))
+    (λ c. omega (arith, summed-lt (c .before .loop .inv) 56 (omega (arith, c .loop-test .taken))))
     (λ c. omega (arith, c .before .before .before .pre .1))
     (λ c. omega (arith, c .before .before .before .pre .1, c .before .loop .inv .in-word))
     (λ c κs. search needs)
-    (λ c. omega (arith, turn c .fits))
+    (λ c. omega (arith, summed-lt (turn c) 64 (omega arith)))
     (λ c. omega (arith, c .before .loop-test .taken))
     (λ c. turn c)
     (λ c. summed-all (c .before .loop .inv) (c .loop-test .left)))

@@ -4,7 +4,7 @@ use Prim.Native.Nat.{ℕ, _*_, _/_, _%_, _^_, _≤_, _<_}
 use native.Mathlib.Nat.{mul-le-mul}
 use native.Mathlib.Omega.{arith}
 use borrow.Author.Needs.{needs}
-use Rattle.ryser.proofs.Bytes.{times-is}
+use Rattle.ryser.proofs.Products.{times-is}
 use Rattle.ryser.proofs.times.Statement.{statement}
 use Rattle.ryser.proofs.times.Tie as tie
 
