@@ -31,9 +31,9 @@ module _ {columns : List ℕ} {j x y z : ℕ} (u : Underway columns j x y z) whe
   pub words : Small (bytes 8 x) × Small (bytes 8 y) × Small (bytes 8 z)
   words = (word 0 (u .first), word 1 (u .second), word 2 (u .third))
 
-  pub last-four : Small (bytes 4 z)
+  pub last-word : Small (bytes 4 z)
   unfolding bytes
-  last-four = let s = words .2 in (s .0, (s .1 .0, (s .1 .1 .0, (s .1 .1 .1 .0, tt))))
+  last-word = let s = words .2 in (s .0, (s .1 .0, (s .1 .1 .0, (s .1 .1 .1 .0, tt))))
 
   pub product-is : multiplied (bytes 8 x) * multiplied (bytes 8 y) * multiplied (bytes 4 z) ≡ setProduct (u .opens) (u .set)
   product-is = rw (u .first, u .second, u .third) (sums-product (u .opens) (u .set) (u .few) (u .small))

@@ -2,7 +2,7 @@
 use mathlib.Core.Path.{_≡_, sym, ap, ap₂, _∙_}
 use mathlib.Core.List.{[], _∷_}
 use Prim.Native.Nat.{ℕ, _+_, _*_, _/_, _%_, _^_, _≤_, _<_}
-use native.Mathlib.Nat.{mul-le-mul, div-add-mod', div-div-eq-div-mul}
+use native.Mathlib.Nat.{mul-le-mul, div-add-mod'}
 use native.Mathlib.Omega.{arith}
 use lib.Bits.{bitAnd, and-block, and-mask}
 use Rattle.ryser.specs.Bytes.{bytes, multiplied, quad, Small, SmallQuad}
@@ -27,13 +27,13 @@ pub record Laned (x y p : ℕ) : Type 0 where
 pub laned : (x y : ℕ) → SmallQuad x y → Laned x y (bitAnd x 16711935 * bitAnd y 1095216660735)
 laned x y s =
     let a = x % 256 in
-    let b = x / 65536 % 256 in
+    let b = x / 256 / 256 % 256 in
     let c = y % 256 in
-    let d = y / 4294967296 % 256 in
-    let ac : a * c ≤ 400 = mul-le-mul (s .0) (s .1 .1 .0) in
-    let bc : b * c ≤ 400 = mul-le-mul (s .1 .0) (s .1 .1 .0) in
-    let ad : a * d ≤ 400 = mul-le-mul (s .0) (s .1 .1 .1 .0) in
-    let bd : b * d ≤ 400 = mul-le-mul (s .1 .0) (s .1 .1 .1 .0) in
+    let d = y / 256 / 256 / 256 / 256 % 256 in
+    let ac : a * c ≤ 400 = mul-le-mul (s .0) (s .1) in
+    let bc : b * c ≤ 400 = mul-le-mul (s .2) (s .1) in
+    let ad : a * d ≤ 400 = mul-le-mul (s .0) (s .3) in
+    let bd : b * d ≤ 400 = mul-le-mul (s .2) (s .3) in
     let of-x : bitAnd x 16711935 ≡ b * 65536 + a = omega (arith, two-bytes 16 x (omega arith) (omega arith)) in
     let of-y : bitAnd y 1095216660735 ≡ d * 4294967296 + c = omega (arith, two-bytes 32 y (omega arith) (omega arith)) in
     let all = ap₂ _*_ of-x of-y ∙ lanes a b c d in
@@ -43,61 +43,6 @@ laned x y s =
     record { fits = omega (arith, all); both = ap₂ _*_ lowest highest; few = mul-le-mul ac bd }
 
 -- ---- twenty bytes
-
--- the bytes above two, three, four and five
-two : (x : ℕ) → x / 65536 ≡ x / 256 / 256
-two x = sym (div-div-eq-div-mul x 256 256)
-
-three : (x : ℕ) → x / 16777216 ≡ x / 256 / 256 / 256
-three x = sym (div-div-eq-div-mul x 65536 256) ∙ ap (_/ 256) (two x)
-
-four : (x : ℕ) → x / 4294967296 ≡ x / 256 / 256 / 256 / 256
-four x = sym (div-div-eq-div-mul x 16777216 256) ∙ ap (_/ 256) (three x)
-
-five : (x : ℕ) → x / 1099511627776 ≡ x / 256 / 256 / 256 / 256 / 256
-five x = sym (div-div-eq-div-mul x 4294967296 256) ∙ ap (_/ 256) (four x)
-
-module _ (a b c d : ℕ) where
-  swap : a * b * (c * d) ≡ a * c * (b * d)
-  swap = omega arith
-
-  last-four : a * (b * c * d) ≡ a * (b * (c * (d * 1)))
-  last-four = omega arith
-
-module _ (a b c d e f g h : ℕ) where
-  -- bytes 0 and 2, 1 and 3, 4 and 6, 5 and 7
-  by-two : a * c * (b * d) * (e * g * (f * h)) ≡ a * (b * (c * (d * (e * (f * (g * (h * 1)))))))
-  by-two = omega arith
-
-  -- bytes 0 and 4, 1 and 5, 2 and 6, 3 and 7
-  by-four : a * e * (b * f) * (c * g * (d * h)) ≡ a * (b * (c * (d * (e * (f * (g * (h * 1)))))))
-  by-four = omega arith
-
-apart : (a b c d i j k l q r : ℕ) → a * i * (b * j) * (c * k * q) * (d * l * r) ≡ a * b * (c * d) * (i * j * (k * l)) * (q * r)
-apart a b c d i j k l q r = omega arith
-
-module _ (x y : ℕ) (sx : Small (bytes 8 x)) (sy : Small (bytes 8 y)) where
-  pub quads-small : SmallQuad x y × SmallQuad (x / 256) (y / 256) × SmallQuad (x / 4294967296) (y / 65536) × SmallQuad (x / 1099511627776) (y / 16777216)
-  unfolding bytes
-  quads-small =
-      let x₂ = sx .1 .1 in
-      let x₄ = x₂ .1 .1 in
-      let y₂ = sy .1 .1 in
-      let y₄ = y₂ .1 .1 in
-      rw (two x, two (x / 256), four x, two (x / 256 / 256 / 256 / 256), five x, two (x / 256 / 256 / 256 / 256 / 256))
-      (rw (four y, four (y / 256), two y, four (y / 256 / 256), three y, four (y / 256 / 256 / 256)) (
-        small (sx .0) (x₂ .0) (sy .0) (y₄ .0),
-        small (sx .1 .0) (x₂ .1 .0) (sy .1 .0) (y₄ .1 .0),
-        small (x₄ .0) (x₄ .1 .1 .0) (y₂ .0) (y₄ .1 .1 .0),
-        small (x₄ .1 .0) (x₄ .1 .1 .1 .0) (y₂ .1 .0) (y₄ .1 .1 .1 .0),
-      ))
-    where
-      small : {a b c d : ℕ} → a ≤ 20 → b ≤ 20 → c ≤ 20 → d ≤ 20 → Small (a ∷ b ∷ c ∷ d ∷ [])
-      small p q r s = (p, (q, (r, (s, tt))))
-
-pub last-small : (z : ℕ) → Small (bytes 4 z) → Small ((z % 256) ∷ (z / 256 % 256) ∷ (z / 65536 % 256) ∷ (z / 16777216 % 256) ∷ [])
-unfolding bytes
-last-small z s = rw (two z, three z) s
 
 -- the factors of `term`: thirteen fit a word, seven half of one
 pub record Fitting (a b c d p q r s : ℕ) : Type 0 where
@@ -116,18 +61,36 @@ fitting ha hb hc hd h =
     let cp = mul-le-mul hc (h .0) in
     record { qr = qr; qrs = qrs; ab = ab; cp = cp; thirteen = mul-le-mul ab cp; seven = mul-le-mul hd qrs }
 
-pub all-bytes : (x y z : ℕ) {a b c d : ℕ}
-    → a ≡ quad x y → b ≡ quad (x / 256) (y / 256) → c ≡ quad (x / 4294967296) (y / 65536) → d ≡ quad (x / 1099511627776) (y / 16777216)
-    → a * b * (c * (z % 256)) * (d * (z / 256 % 256 * (z / 65536 % 256) * (z / 16777216 % 256)))
+-- the factors in the order of the words' bytes
+by-words : (a b c d i j k l q r : ℕ) → a * i * (b * j) * (c * k * q) * (d * l * r) ≡ a * b * (c * d) * (i * j * (k * l)) * (q * r)
+by-words a b c d i j k l q r = omega arith
+
+module _ (a b c d : ℕ) where
+  swap : a * b * (c * d) ≡ a * c * (b * d)
+  swap = omega arith
+
+  in-a-row : a * (b * c * d) ≡ a * (b * (c * (d * 1)))
+  in-a-row = omega arith
+
+module _ (a b c d e f g h : ℕ) where
+  -- bytes 0 and 2, 1 and 3, 4 and 6, 5 and 7
+  by-two : a * c * (b * d) * (e * g * (f * h)) ≡ a * (b * (c * (d * (e * (f * (g * (h * 1)))))))
+  by-two = omega arith
+
+  -- bytes 0 and 4, 1 and 5, 2 and 6, 3 and 7
+  by-four : a * e * (b * f) * (c * g * (d * h)) ≡ a * (b * (c * (d * (e * (f * (g * (h * 1)))))))
+  by-four = omega arith
+
+pub all-bytes : (x y z : ℕ) {a b c d : ℕ} → a ≡ quad x y → b ≡ quad (x / 256) (y / 256)
+    → c ≡ quad (x / 256 / 256 / 256 / 256) (y / 256 / 256) → d ≡ quad (x / 256 / 256 / 256 / 256 / 256) (y / 256 / 256 / 256)
+    → a * b * (c * (z % 256)) * (d * (z / 256 % 256 * (z / 256 / 256 % 256) * (z / 256 / 256 / 256 % 256)))
     ≡ multiplied (bytes 8 x) * multiplied (bytes 8 y) * multiplied (bytes 4 z)
 unfolding bytes multiplied
 all-bytes x y z ea eb ec ed =
-    let rest = z / 256 % 256 * (z / 256 / 256 % 256) * (z / 256 / 256 / 256 % 256) in
-    rw (ea, eb, ec, ed)
-    (rw (two x, two (x / 256), four x, two (x / 256 / 256 / 256 / 256), five x, two (x / 256 / 256 / 256 / 256 / 256))
-    (rw (four y, four (y / 256), two y, four (y / 256 / 256), three y, four (y / 256 / 256 / 256), two z, three z)
-    (ap₂ _*_ (ap₂ _*_ (ap₂ _*_ (swap _ _ _ _) (swap _ _ _ _)) (ap (_* (z % 256)) (swap _ _ _ _))) (ap (_* rest) (swap _ _ _ _))
-    ∙ apart _ _ _ _ _ _ _ _ _ _ ∙ ap₂ _*_ (ap₂ _*_ (by-two _ _ _ _ _ _ _ _) (by-four _ _ _ _ _ _ _ _)) (last-four _ _ _ _))))
+    let last = z / 256 % 256 * (z / 256 / 256 % 256) * (z / 256 / 256 / 256 % 256) in
+    ap₂ _*_
+    (ap₂ _*_ (ap₂ _*_ (ea ∙ swap _ _ _ _) (eb ∙ swap _ _ _ _)) (ap (_* (z % 256)) (ec ∙ swap _ _ _ _))) (ap (_* last) (ed ∙ swap _ _ _ _))
+    ∙ by-words _ _ _ _ _ _ _ _ _ _ ∙ ap₂ _*_ (ap₂ _*_ (by-two _ _ _ _ _ _ _ _) (by-four _ _ _ _ _ _ _ _)) (in-a-row _ _ _ _)
 
 -- ---- modulo 2 to the power 64
 

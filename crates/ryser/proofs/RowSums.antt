@@ -76,8 +76,8 @@ module _ (opens : List ℕ) (set : ℕ) (h : set < 2 ^ 20) where
   unfolding rowSums upFrom
   sums-bytes k = bytes-packed (map (rowSum opens set) (upFrom (8 * k) 8)) (small-sums (upFrom (8 * k) 8))
 
-  -- the last items'
-  pub four-bytes : bytes 4 (rowSums opens set 2) ≡ map (rowSum opens set) (upFrom 16 4)
+  -- of the third word those of items 16 to 19, which a term has
+  four-bytes : bytes 4 (rowSums opens set 2) ≡ map (rowSum opens set) (upFrom 16 4)
   unfolding bytes upFrom
   four-bytes = ap (take 4) (sums-bytes 2)
 

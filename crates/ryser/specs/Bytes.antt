@@ -21,7 +21,7 @@ multiplied (b ∷ l) = b * multiplied l
 
 -- bytes 0 and 2 of x and bytes 0 and 4 of y, multiplied
 abbrev pub quad : ℕ → ℕ → ℕ
-quad x y = x % 256 * (y % 256) * (x / 65536 % 256 * (y / 4294967296 % 256))
+quad x y = x % 256 * (y % 256) * (x / 256 / 256 % 256 * (y / 256 / 256 / 256 / 256 % 256))
 
 -- some number is 0
 abbrev pub someZero : List ℕ → Bool
@@ -32,6 +32,6 @@ abbrev pub Small : List ℕ → Type 0
 Small [] = Unit {0}
 Small (b ∷ l) = (b ≤ 20) × Small l
 
--- of the bytes of `quad` too
+-- none of the four bytes of `quad` is
 abbrev pub SmallQuad : ℕ → ℕ → Type 0
-SmallQuad x y = Small ((x % 256) ∷ (x / 65536 % 256) ∷ (y % 256) ∷ (y / 4294967296 % 256) ∷ [])
+SmallQuad x y = (x % 256 ≤ 20) × (y % 256 ≤ 20) × (x / 256 / 256 % 256 ≤ 20) × (y / 256 / 256 / 256 / 256 % 256 ≤ 20)

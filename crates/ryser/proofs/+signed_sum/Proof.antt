@@ -8,7 +8,7 @@ use lib.ListN.{getD}
 use borrow.Fn.Kinds.{In}
 use borrow.Fn.PlainCycle.{Measures, is, falls, and}
 use Rattle.ryser.specs.RowSums.{Underway}
-use Rattle.ryser.proofs.LeavingOut.{words, last-four, few-slots, x-less, y-less, z-less, left-out, nothing-left, Partly, partly-start, partly-turn, partly-end}
+use Rattle.ryser.proofs.LeavingOut.{words, last-word, few-slots, x-less, y-less, z-less, left-out, nothing-left, Partly, partly-start, partly-turn, partly-end}
 use Rattle.ryser.proofs.signed_sum.Reads as signed-sum
 use Rattle.ryser.proofs.signed_sum.Kinds as signed-sum-kinds
 use Rattle.ryser.proofs.+signed_sum.Lts-signed_sum as lts
@@ -75,7 +75,7 @@ module _ (t : ℕ) where
 
 pub +signed-sum-spec : {M : Type 1} → statement M
 +signed-sum-spec = close μ-signed-sum λ t. lts.spec (claims t) (at-measure t) signed-sum.Post Inv-loop μ-loop
-    (λ c κs. let w = words (c .pre .1) in (w .0, w .1, last-four (c .pre .1)))
+    (λ c κs. let w = words (c .pre .1) in (w .0, w .1, last-word (c .pre .1)))
     (λ c. partly-start _ _ _ _ _ (c .term .ensures))
     (λ c. omega (arith, low t c))
     (λ c. omega (arith, low t c))
