@@ -63,6 +63,7 @@ def result(times, peers, stack):
     plan, fewest = rows(peers["A plan, µs a call"]), rows(peers["The fewest callouts, µs a call"])
     count, count_untallied = ([row for row in rows(peers[f"The number of plans{form}, µs a call"]) if row[0] == "20"] for form in ("", " without a tally"))
     untallied = rows(times["Counting without a tally, n = 20, µs a call"])
+    numbered, walks = rows(times["Plan numbers, n = 20, µs a call"]), rows(times["The walk through a filled tally, in Rust, n = 20, µs a call"])
     most = max(int(row[2]) for row in stack)
     if most >= STACK_LIMIT:
         sys.exit(f"report: a call takes {most} bytes of stack")
@@ -71,10 +72,14 @@ def result(times, peers, stack):
         sys.exit(f"report: a call without a tally takes {most_untallied} bytes of stack")
     counts = span([value / 1000 for value in numbers(counting, 1)], "{:.0f}")
     untallied_counts = span([value / 1000 for value in numbers(untallied, 2)], "{:.1f}")
+    plan_at, plan_number = (span([value / 1000 for value in numbers(numbered, column)], "{:.1f}") for column in (2, 6))
     return "\n".join([
         f"- At 20 items {calls(plans20)}; the count {counts} ms.",
         f"- Without a tally the count of 20 items takes {untallied_counts} ms, {span(numbers(untallied, 5))} times as long as with one, by the number of "
         f"open slots; {span(numbers(untallied, 4) + numbers(untallied, 8) + numbers(untallied, 11))} times as long as in Rust, grade and price too.",
+        f"- A plan of 20 items by its number takes {plan_at} ms, {span(numbers(numbered, 5))} times as long as the counts with and without a tally together; a "
+        f"plan's number {plan_number} ms, {span(numbers(numbered, 9))} times as long; both {span(numbers(numbered, 4) + numbers(numbered, 8))} times as long as in "
+        f"Rust. The walk through a filled tally takes {span(numbers(walks, 1))} µs to a plan, {span(numbers(walks, 2))} µs to a number.",
         f"- At 64 items {calls(plans64)}.",
         f"- The first plan that holds an open cell takes {span(numbers(cells, 3))} µs at 64 items, {span(numbers(cells, 6))} times as long "
         f"as the first plan of the same family; a cell that is not open {span(numbers(others, 1))} µs.",

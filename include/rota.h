@@ -44,9 +44,9 @@
 #include <stddef.h>
 #include <stdint.h>
 
-/* The version, in numbers and as a text made of them: "2.1.0". */
+/* The version, in numbers and as a text made of them: "2.2.0". */
 #define ROTA_VERSION_MAJOR 2
-#define ROTA_VERSION_MINOR 1
+#define ROTA_VERSION_MINOR 2
 #define ROTA_VERSION_PATCH 0
 #define ROTA_VERSION ROTA_VERSION_OF(ROTA_VERSION_MAJOR, ROTA_VERSION_MINOR, ROTA_VERSION_PATCH)
 #define ROTA_VERSION_OF(major, minor, patch) ROTA_VERSION_TEXT(major, minor, patch)
@@ -63,7 +63,7 @@ enum rota_code {
     ROTA_BAD_TABLE_LENGTH = 2,  /* the open or callout table has other than n words */
     ROTA_SLOT_OUTSIDE = 3,      /* an open bit at slot n or above */
     ROTA_CALLOUT_NOT_OPEN = 4,  /* a callout bit where the cell is not open */
-    ROTA_TOO_MANY_TO_COUNT = 5, /* count, grade or price with n above 20 */
+    ROTA_TOO_MANY_TO_COUNT = 5, /* count, grade, price or plan number with n above 20 */
     ROTA_TALLY_TOO_SHORT = 6,   /* the tally has fewer than 2 to the power n words */
     ROTA_BAD_FLEET = 7,         /* vehicles are 0 or above 10,000 */
     ROTA_NOT_A_PLAN = 8,        /* the given plan, or that of a started lister, is no complete plan of this rota */
@@ -73,7 +73,8 @@ enum rota_code {
     ROTA_BAD_FILE_LENGTH = 12,  /* the file has other than 512, 1,024 or 1,536 bytes */
     ROTA_BAD_CHECK = 13,        /* a block's check is wrong */
     ROTA_BAD_LAYOUT = 14,       /* a header or unused place, n, or the number of blocks is not as laid out */
-    ROTA_OUTPUT_TOO_SHORT = 15  /* an output other than the tally is shorter than what is to be written */
+    ROTA_OUTPUT_TOO_SHORT = 15, /* an output other than the tally is shorter than what is to be written */
+    ROTA_NO_SUCH_PLAN = 16      /* the plan number is not below the number of complete plans */
 };
 
 /* What a number of enum rota_code says, in plain words; any other number has a text too. */
@@ -85,7 +86,7 @@ static inline const char *rota_code_text(uint32_t code)
         "a table does not have one word for each item",
         "an item is open for a slot that the rota does not have",
         "a callout stands where the slot is not open to the item",
-        "only rotas of up to 20 items are counted, graded and priced",
+        "only rotas of up to 20 items are counted, graded and priced, and have plan numbers",
         "the tally is too short to count the plans",
         "the fleet does not have 1 to 10,000 vehicles",
         "the given plan is no complete plan of this rota",
@@ -95,7 +96,8 @@ static inline const char *rota_code_text(uint32_t code)
         "the file does not have 512, 1,024 or 1,536 bytes",
         "the check of a block is wrong, so the file is damaged",
         "the file is not laid out as a rota file",
-        "there is too little room for the result"
+        "there is too little room for the result",
+        "no complete plan has this plan number"
     };
     return code < sizeof texts / sizeof texts[0] ? texts[code] : "the library has no such number";
 }
@@ -103,7 +105,7 @@ static inline const char *rota_code_text(uint32_t code)
 /* Sizes that the calls, the file and the plan sheet are made of. */
 enum {
     ROTA_MOST_ITEMS = 64,    /* items, slots, and bytes of a plan */
-    ROTA_MOST_COUNTED = 20,  /* items of a rota that is counted, graded or priced */
+    ROTA_MOST_COUNTED = 20,  /* items of a rota that is counted, graded or priced, or has plan numbers */
     ROTA_BLOCK_BYTES = 512,  /* bytes of a block of a rota file */
     ROTA_FILE_BYTES = 1536,  /* bytes of the longest rota file */
     ROTA_LINE_BYTES = 32,    /* bytes of a line of a plan sheet */
@@ -144,6 +146,11 @@ typedef struct {
     uint32_t code;
     uint64_t count; /* the number of complete plans */
 } rota_count_answer;
+
+typedef struct {
+    uint32_t code;
+    uint64_t number; /* the number of complete plans before the given one */
+} rota_number_answer;
 
 typedef struct {
     uint32_t code;
@@ -272,6 +279,24 @@ rota_grade_answer rota_grade_untallied(size_t n, const uint64_t *opens, size_t o
  */
 rota_price_answer rota_monthly_price_untallied(size_t n, const uint64_t *opens, size_t opens_len,
                                                const uint64_t *callouts, size_t callouts_len, uint64_t vehicles);
+
+/*
+ * The complete plan with plan number k, which counts from 0: k complete plans come before it, and a fresh lister gives it at
+ * call k + 1. On success the first 2 to the power n words of the tally are written: word S holds the number of ways to give the
+ * slots of S, all of them, to the last items, as many as S has bits (in rota_count_plans to the first ones). Tests TABLES,
+ * ROTA_TOO_MANY_TO_COUNT, ROTA_TALLY_TOO_SHORT, ROTA_NO_SUCH_PLAN; over a rota without a plan every k is ROTA_NO_SUCH_PLAN.
+ */
+rota_plan_answer rota_plan_at(size_t n, const uint64_t *opens, size_t opens_len,
+                              const uint64_t *callouts, size_t callouts_len,
+                              uint64_t k, uint64_t *tally, size_t tally_len);
+
+/*
+ * The plan number of a given plan: how many complete plans come before it. rota_plan_at gives the plan back for it. On success
+ * the tally is left as by rota_plan_at. Tests TABLES, ROTA_TOO_MANY_TO_COUNT, ROTA_TALLY_TOO_SHORT, ROTA_NOT_A_PLAN.
+ */
+rota_number_answer rota_plan_number(size_t n, const uint64_t *opens, size_t opens_len,
+                                    const uint64_t *callouts, size_t callouts_len,
+                                    rota_plan given, uint64_t *tally, size_t tally_len);
 
 /*
  * Reads a rota file. On success the first n words of opens and of callouts are written. Tests FILE,

@@ -1,6 +1,8 @@
 //! The library's C calls, with Rust's slices.
 
-use crate::records::{CountAnswer, GradeAnswer, Lister, Plan, PlanAnswer, PriceAnswer, ReadAnswer, WriteAnswer};
+use crate::records::{
+    CountAnswer, GradeAnswer, Lister, NumberAnswer, Plan, PlanAnswer, PriceAnswer, ReadAnswer, WriteAnswer,
+};
 
 mod c {
     use super::*;
@@ -103,6 +105,26 @@ mod c {
             c_len: usize,
             vehicles: u64,
         ) -> PriceAnswer;
+        pub fn rota_plan_at(
+            n: usize,
+            o: *const u64,
+            o_len: usize,
+            c: *const u64,
+            c_len: usize,
+            k: u64,
+            tally: *mut u64,
+            tally_len: usize,
+        ) -> PlanAnswer;
+        pub fn rota_plan_number(
+            n: usize,
+            o: *const u64,
+            o_len: usize,
+            c: *const u64,
+            c_len: usize,
+            given: Plan,
+            tally: *mut u64,
+            tally_len: usize,
+        ) -> NumberAnswer;
         pub fn rota_read_file(
             file: *const u8,
             file_len: usize,
@@ -183,6 +205,14 @@ pub fn grade_untallied(n: usize, o: &[u64], c: &[u64]) -> GradeAnswer {
 
 pub fn monthly_price_untallied(n: usize, o: &[u64], c: &[u64], vehicles: u64) -> PriceAnswer {
     unsafe { c::rota_monthly_price_untallied(n, o.as_ptr(), o.len(), c.as_ptr(), c.len(), vehicles) }
+}
+
+pub fn plan_at(n: usize, o: &[u64], c: &[u64], k: u64, tally: &mut [u64]) -> PlanAnswer {
+    unsafe { c::rota_plan_at(n, o.as_ptr(), o.len(), c.as_ptr(), c.len(), k, tally.as_mut_ptr(), tally.len()) }
+}
+
+pub fn plan_number(n: usize, o: &[u64], c: &[u64], given: Plan, tally: &mut [u64]) -> NumberAnswer {
+    unsafe { c::rota_plan_number(n, o.as_ptr(), o.len(), c.as_ptr(), c.len(), given, tally.as_mut_ptr(), tally.len()) }
 }
 
 pub fn read_file(file: &[u8], o: &mut [u64], c: &mut [u64]) -> ReadAnswer {

@@ -3,6 +3,7 @@
 mod cells;
 mod families;
 mod library;
+mod numbers;
 mod random;
 mod records;
 mod report;
@@ -143,6 +144,7 @@ fn growth(report: &mut Report) {
     growth_of_fewest(report);
     growth_of_count(report);
     untallied::growth(report);
+    numbers::growth(report);
 }
 
 fn growth_of_first(report: &mut Report) {
@@ -293,6 +295,8 @@ fn main() {
     cells::cells(&mut report);
     counts(&mut report, 20);
     untallied::counts(&mut report, 20);
+    numbers::numbers(&mut report, 20);
+    numbers::walks(&mut report, 20);
     desk(&mut report);
     growth(&mut report);
     files(&mut report);

@@ -32,6 +32,13 @@ pub struct CountAnswer {
 
 #[repr(C)]
 #[derive(Clone, Copy, PartialEq, Eq, Debug)]
+pub struct NumberAnswer {
+    pub code: u32,
+    pub number: u64,
+}
+
+#[repr(C)]
+#[derive(Clone, Copy, PartialEq, Eq, Debug)]
 pub struct GradeAnswer {
     pub code: u32,
     pub grade: u32,

@@ -14,6 +14,12 @@ const MOST_FIRSTS: f64 = 1.5;
 /// The time of the count of 20 items without a tally over that with one, by the family.
 const MOST_TALLIED: [(&str, f64); 2] = [("dense", 1.6), ("4 slots an item", 1.0)];
 
+/// The time of a plan by its number and of a plan's number, of 20 items, over that of the two counts together.
+const MOST_COUNTS: f64 = 1.2;
+
+/// The limit on the walk through a filled tally of 20 items, in µs.
+const MOST_WALK: f64 = 1.0;
+
 /// The limits on times, in µs, of 64 items.
 const LIMITS: [(&str, f64); 6] =
     [("first", 6.0), ("next", 4.0), ("usable", 6.0), ("fewest", 20.0), ("closed cell", 0.5), ("cell outside", 0.5)];
@@ -31,11 +37,28 @@ pub struct Report {
     cells: Vec<Cell>,
     firsts: Vec<(&'static str, f64)>,
     tallied: Vec<(usize, &'static str, f64)>,
+    counted: Vec<Beside>,
+    walks: Vec<Beside>,
+}
+
+/// A call's time of n items of a family: over another, or in µs.
+struct Beside {
+    call: &'static str,
+    n: usize,
+    family: &'static str,
+    time: f64,
 }
 
 impl Report {
     pub fn new(rounds: u32) -> Self {
-        Report { rounds, cells: Vec::new(), firsts: Vec::new(), tallied: Vec::new() }
+        Report {
+            rounds,
+            cells: Vec::new(),
+            firsts: Vec::new(),
+            tallied: Vec::new(),
+            counted: Vec::new(),
+            walks: Vec::new(),
+        }
     }
 
     pub fn cell(&mut self, call: &'static str, n: usize, family: &'static str, times: Times) {
@@ -58,6 +81,40 @@ impl Report {
         self.cell("count untallied", n, family, untallied);
         print!(" {ratio:.2} |");
         self.tallied.push((n, family, ratio));
+    }
+
+    /// A call for plan numbers, and how many times as long as the two counts together it takes.
+    pub fn beside_counts(&mut self, call: &'static str, n: usize, family: &'static str, times: Times, counts: f64) {
+        let time = times.library / counts;
+        self.cell(call, n, family, times);
+        print!(" {time:.2} |");
+        self.counted.push(Beside { call, n, family, time });
+    }
+
+    /// The walk through a filled tally.
+    pub fn walk(&mut self, call: &'static str, n: usize, family: &'static str, time: f64) {
+        print!(" {} |", digits(time));
+        self.walks.push(Beside { call, n, family, time });
+    }
+
+    /// The rows of the calls for plan numbers; what is above its limit goes to the list.
+    fn number_limits(&self, above: &mut Vec<String>) {
+        for call in ["plan at", "plan number"] {
+            let times = self.counted.iter().filter(|row| row.n == 20 && row.call == call);
+            println!("| {call} / both counts, n = 20 | {MOST_COUNTS} | {} |", range(times.clone().map(|row| row.time)));
+            for Beside { family, time, .. } in times.filter(|row| row.time > MOST_COUNTS) {
+                above.push(format!("{call}, n = 20, {family}: {time:.2} times as long as both counts"));
+            }
+        }
+        for call in ["walk to a plan", "walk to a number"] {
+            let walks = self.walks.iter().filter(|row| row.n == 20 && row.call == call);
+            let worst = walks.max_by(|a, b| a.time.total_cmp(&b.time)).expect("every walk was timed");
+            let Beside { family, time, .. } = worst;
+            println!("| {call}, n = 20 | {MOST_WALK} µs | {} µs ({family}) |", digits(*time));
+            if *time >= MOST_WALK {
+                above.push(format!("{call}, n = 20, {family}: {} µs", digits(*time)));
+            }
+        }
     }
 
     /// The rows of the count without a tally; what is above its limit goes to the list.
@@ -89,6 +146,7 @@ impl Report {
             above.push(format!("cell, n = 64, {family}: {firsts:.2} times as long as first"));
         }
         self.tallied_limits(&mut above);
+        self.number_limits(&mut above);
         let ratios: [(&str, f64, fn(&Cell) -> bool); 3] = [
             ("n = 64, sheet", MOST_SHEET_RATIO, |cell| cell.n == 64 && cell.call == "sheet"),
             ("n = 64, other calls", MOST_RATIO, |cell| cell.n == 64 && cell.call != "sheet"),

@@ -1,8 +1,10 @@
 //! The two sides, called through pointers alike, and whether they agree.
 
 use crate::library;
-use crate::records::{CountAnswer, GradeAnswer, Lister, Plan, PlanAnswer, PriceAnswer, ReadAnswer, WriteAnswer};
-use crate::same::rota::{counting, file_plans, files, lister, plans, pricing, sheets, untallied, usable};
+use crate::records::{
+    CountAnswer, GradeAnswer, Lister, NumberAnswer, Plan, PlanAnswer, PriceAnswer, ReadAnswer, WriteAnswer,
+};
+use crate::same::rota::{counting, file_plans, files, lister, numbers, plans, pricing, sheets, untallied, usable};
 use std::fmt::Debug;
 
 pub struct Side {
@@ -19,6 +21,8 @@ pub struct Side {
     pub count_plans_untallied: fn(usize, &[u64], &[u64]) -> CountAnswer,
     pub grade_untallied: fn(usize, &[u64], &[u64]) -> GradeAnswer,
     pub monthly_price_untallied: fn(usize, &[u64], &[u64], u64) -> PriceAnswer,
+    pub plan_at: fn(usize, &[u64], &[u64], u64, &mut [u64]) -> PlanAnswer,
+    pub plan_number: fn(usize, &[u64], &[u64], Plan, &mut [u64]) -> NumberAnswer,
     pub read_file: fn(&[u8], &mut [u64], &mut [u64]) -> ReadAnswer,
     pub write_file: fn(usize, &[u64], &[u64], &mut [u8]) -> WriteAnswer,
     pub file_first_plan: fn(&[u8], &mut [u8]) -> u32,
@@ -40,6 +44,8 @@ pub static LIBRARY: Side = Side {
     count_plans_untallied: library::count_plans_untallied,
     grade_untallied: library::grade_untallied,
     monthly_price_untallied: library::monthly_price_untallied,
+    plan_at: library::plan_at,
+    plan_number: library::plan_number,
     read_file: library::read_file,
     write_file: library::write_file,
     file_first_plan: library::file_first_plan,
@@ -61,6 +67,8 @@ pub static RUST: Side = Side {
     count_plans_untallied: untallied::rota_count_plans_untallied,
     grade_untallied: untallied::rota_grade_untallied,
     monthly_price_untallied: untallied::rota_monthly_price_untallied,
+    plan_at: numbers::rota_plan_at,
+    plan_number: numbers::rota_plan_number,
     read_file: files::rota_read_file,
     write_file: files::rota_write_file,
     file_first_plan: file_plans::rota_file_first_plan,

@@ -85,6 +85,12 @@ pub fn times(rounds: u32, calls: usize, mut pass: impl FnMut(&Side)) -> Times {
     Times { library: of(&library) / calls as f64, rust: of(&rust) / calls as f64 }
 }
 
+/// The time of a pass that makes so many calls, of neither side.
+pub fn time(rounds: u32, calls: usize, mut pass: impl FnMut()) -> f64 {
+    let times = times(rounds, calls, |_| pass());
+    times.library.min(times.rust)
+}
+
 /// The mean of times.
 pub fn mean(all: impl Iterator<Item = Times>) -> Times {
     let all: Vec<Times> = all.collect();

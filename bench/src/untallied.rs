@@ -11,7 +11,7 @@ use std::hint::black_box;
 const BESIDE: &str = "untallied / tallied";
 
 /// The families whose growth is shown.
-const GROWING: [&str; 3] = ["dense", "4 slots an item", "triangle up"];
+pub const GROWING: [&str; 3] = ["dense", "4 slots an item", "triangle up"];
 
 pub fn counts(report: &mut Report, n: usize) {
     let columns =
@@ -37,7 +37,7 @@ pub fn counts(report: &mut Report, n: usize) {
 }
 
 /// The times of the count without a tally and with one. Ends the program if the two differ.
-fn both_counts(rounds: u32, n: usize, name: &str, Rota { opens, callouts }: &Rota) -> (Times, Times) {
+pub fn both_counts(rounds: u32, n: usize, name: &str, Rota { opens, callouts }: &Rota) -> (Times, Times) {
     let mut tally = vec![0; 1 << n];
     let with = agree(name, |s| (s.count_plans)(n, opens, callouts, &mut vec![0; 1 << n]));
     let without = agree(name, |s| (s.count_plans_untallied)(n, opens, callouts));

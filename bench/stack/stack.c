@@ -29,7 +29,7 @@ static unsigned char *volatile frame; /* the lowest place of the caller's frame 
 /* What the calls take and give. */
 static size_t n, file_bytes, item, slot;
 static uint64_t opens[64], callouts[64], usable[64], read_opens[64], read_callouts[64];
-static uint64_t tally[1 << ROTA_MOST_COUNTED];
+static uint64_t tally[1 << ROTA_MOST_COUNTED], number;
 static uint8_t file[ROTA_FILE_BYTES], buffer[64], page[ROTA_SHEET_BYTES];
 static rota_plan given;
 static rota_lister lister;
@@ -74,6 +74,8 @@ CALLER(monthly_price, rota_monthly_price(TABLES, VEHICLES, TALLY).code)
 CALLER(count_plans_untallied, rota_count_plans_untallied(TABLES).code)
 CALLER(grade_untallied, rota_grade_untallied(TABLES).code)
 CALLER(monthly_price_untallied, rota_monthly_price_untallied(TABLES, VEHICLES).code)
+CALLER(plan_at, rota_plan_at(TABLES, number, TALLY).code)
+CALLER(plan_number, rota_plan_number(TABLES, given, TALLY).code)
 CALLER(read_file, rota_read_file(file, file_bytes, read_opens, 64, read_callouts, 64).code)
 CALLER(write_file, rota_write_file(TABLES, file, sizeof file).code)
 CALLER(file_first_plan, rota_file_first_plan(file, file_bytes, buffer, 64))
@@ -137,6 +139,8 @@ static row rows[] = {
     {"count_plans_untallied", count_plans_untallied, 0, NULL},
     {"grade_untallied", grade_untallied, 0, NULL},
     {"monthly_price_untallied", monthly_price_untallied, 0, NULL},
+    {"plan_at", plan_at, 0, NULL},
+    {"plan_number", plan_number, 0, NULL},
     {"read_file", read_file, 0, NULL},
     {"write_file", write_file, 0, NULL},
     {"file_first_plan", file_first_plan, 0, NULL},
@@ -224,6 +228,16 @@ static void measure_counts(const bench_family *family)
     require(measure(monthly_price_untallied, family) == none, "the price is given with a plan");
 }
 
+/* The plan in the middle of the list, and its number. */
+static void measure_numbers(const bench_family *family)
+{
+    const uint64_t count = rota_count_plans(TABLES, TALLY).count;
+    number = count / 2;
+    given = rota_plan_at(TABLES, number, TALLY).plan;
+    require(measure(plan_at, family) == (count > 0 ? ROTA_DONE : ROTA_NO_SUCH_PLAN), "a number below the count has a plan");
+    require(measure(plan_number, family) == (count > 0 ? ROTA_DONE : ROTA_NOT_A_PLAN), "this plan has a number");
+}
+
 static void measure_family(const bench_family *family)
 {
     n = family->n;
@@ -234,6 +248,7 @@ static void measure_family(const bench_family *family)
             measure_plans(family);
         } else if (n == ROTA_MOST_COUNTED && r < SAMPLE) {
             measure_counts(family);
+            measure_numbers(family);
         }
     }
 }

@@ -28,22 +28,23 @@ static const struct {
     {ROTA_BAD_CHECK, "check"},
     {ROTA_BAD_LAYOUT, "laid out"},
     {ROTA_OUTPUT_TOO_SHORT, "too little room"},
-    {ROTA_OUTPUT_TOO_SHORT + 1, "no such number"}
+    {ROTA_NO_SUCH_PLAN, "this plan number"},
+    {ROTA_NO_SUCH_PLAN + 1, "no such number"}
 };
 enum { NUMBERS = sizeof WORDS / sizeof WORDS[0] };
 
 /* Each number has one text, and its word is in no other. */
 void texts(void)
 {
-    EXPECT(NUMBERS == 17);
+    EXPECT(NUMBERS == 18);
     for (uint32_t i = 0; i < NUMBERS; i++) {
         EXPECT(WORDS[i].code == i);
         for (uint32_t j = 0; j < NUMBERS; j++) {
             EXPECT((strstr(rota_code_text(j), WORDS[i].word) != NULL) == (i == j));
         }
     }
-    EXPECT(strcmp(rota_code_text(UINT32_MAX), rota_code_text(16)) == 0);
-    EXPECT(strcmp(rota_code_text(256), rota_code_text(16)) == 0);
+    EXPECT(strcmp(rota_code_text(UINT32_MAX), rota_code_text(17)) == 0);
+    EXPECT(strcmp(rota_code_text(256), rota_code_text(17)) == 0);
 }
 
 /* The most items, and one more: slot i is open to item i alone. */
@@ -85,10 +86,14 @@ static void most_items(void)
 /* The most items that are counted, and one more: slots i and i + 1 are open to item i, which makes one plan. */
 static void most_counted(void)
 {
+#define MOST ROTA_MOST_COUNTED, opens, ROTA_MOST_COUNTED, none, ROTA_MOST_COUNTED
+#define ONE_MORE ROTA_MOST_COUNTED + 1, opens, ROTA_MOST_COUNTED + 1, none, ROTA_MOST_COUNTED + 1
     uint64_t opens[ROTA_MOST_COUNTED + 1], none[ROTA_MOST_COUNTED + 1];
     size_t words = (size_t)1 << ROTA_MOST_COUNTED;
     uint64_t *tally = (uint64_t *)malloc(2 * words * sizeof *tally);
     rota_count_answer count;
+    rota_number_answer number;
+    rota_plan_answer a;
 
     EXPECT(tally != NULL);
     for (unsigned i = 0; i <= ROTA_MOST_COUNTED; i++) {
@@ -96,17 +101,31 @@ static void most_counted(void)
         none[i] = 0;
     }
     opens[ROTA_MOST_COUNTED - 1] = (uint64_t)1 << (ROTA_MOST_COUNTED - 1);
-    count = rota_count_plans(ROTA_MOST_COUNTED, opens, ROTA_MOST_COUNTED, none, ROTA_MOST_COUNTED, tally, words - 1);
+    count = rota_count_plans(MOST, tally, words - 1);
     EXPECT(count.code == ROTA_TALLY_TOO_SHORT && count.count == 0);
-    count = rota_count_plans(ROTA_MOST_COUNTED, opens, ROTA_MOST_COUNTED, none, ROTA_MOST_COUNTED, tally, words);
+    count = rota_count_plans(MOST, tally, words);
     EXPECT(count.code == ROTA_DONE && count.count == 1);
-    count = rota_count_plans_untallied(ROTA_MOST_COUNTED, opens, ROTA_MOST_COUNTED, none, ROTA_MOST_COUNTED);
+    count = rota_count_plans_untallied(MOST);
     EXPECT(count.code == ROTA_DONE && count.count == 1);
+    EXPECT(gives(rota_plan_at(MOST, 0, tally, words - 1), ROTA_TALLY_TOO_SHORT, blank(), 0));
+    EXPECT(gives(rota_plan_at(MOST, 1, tally, words), ROTA_NO_SUCH_PLAN, blank(), 0));
+    a = rota_plan_at(MOST, 0, tally, words);
+    EXPECT(a.code == ROTA_DONE && a.plan.slots[0] == 0 && a.plan.slots[ROTA_MOST_COUNTED - 1] == ROTA_MOST_COUNTED - 1);
+    number = rota_plan_number(MOST, a.plan, tally, words - 1);
+    EXPECT(number.code == ROTA_TALLY_TOO_SHORT && number.number == 0);
+    number = rota_plan_number(MOST, a.plan, tally, words);
+    EXPECT(number.code == ROTA_DONE && number.number == 0);
+
     opens[ROTA_MOST_COUNTED] = (uint64_t)1 << ROTA_MOST_COUNTED;
-    count = rota_count_plans(ROTA_MOST_COUNTED + 1, opens, ROTA_MOST_COUNTED + 1, none, ROTA_MOST_COUNTED + 1, tally, 2 * words);
+    count = rota_count_plans(ONE_MORE, tally, 2 * words);
     EXPECT(count.code == ROTA_TOO_MANY_TO_COUNT && count.count == 0);
-    count = rota_count_plans_untallied(ROTA_MOST_COUNTED + 1, opens, ROTA_MOST_COUNTED + 1, none, ROTA_MOST_COUNTED + 1);
+    count = rota_count_plans_untallied(ONE_MORE);
     EXPECT(count.code == ROTA_TOO_MANY_TO_COUNT && count.count == 0);
+    EXPECT(gives(rota_plan_at(ONE_MORE, 0, tally, 2 * words), ROTA_TOO_MANY_TO_COUNT, blank(), 0));
+    a = rota_first_plan(ONE_MORE);
+    EXPECT(a.code == ROTA_DONE && a.plan.slots[ROTA_MOST_COUNTED] == ROTA_MOST_COUNTED);
+    number = rota_plan_number(ONE_MORE, a.plan, tally, 2 * words);
+    EXPECT(number.code == ROTA_TOO_MANY_TO_COUNT && number.number == 0);
     free(tally);
 }
 

@@ -199,9 +199,10 @@ static void tables(void)
     EXPECT(price.code == ROTA_DONE && price.cents == 350 * 100 && price.items == 0 && price.shortage == 0);
 }
 
-/* Count, grade and price of open words without callouts, with no tally. */
+/* Open words without callouts. */
 #define OPEN(n, words) n, words, n, none, n
 
+/* Count, grade and price with no tally. */
 static void without_a_tally(void)
 {
     /* The calls go through pointers of the declared types; another type would not compile. */
@@ -258,6 +259,110 @@ static void without_a_tally(void)
     EXPECT(counted(3, CALLOUTS, 3, OPENS, 3).code == ROTA_CALLOUT_NOT_OPEN);
 }
 
+enum { LENT_WORDS = 17 };
+
+static void lend_words(uint64_t *tally)
+{
+    for (size_t i = 0; i < LENT_WORDS; i++) {
+        tally[i] = 77;
+    }
+}
+
+/* Whether the tally has these words first and is else as it was lent. */
+static bool tally_of(const uint64_t *tally, const uint64_t *words, size_t length)
+{
+    for (size_t i = 0; i < LENT_WORDS; i++) {
+        if (tally[i] != (i < length ? words[i] : 77)) {
+            return false;
+        }
+    }
+    return true;
+}
+
+static bool numbered(rota_number_answer a, uint32_t code, uint64_t number)
+{
+    return a.code == code && a.number == number;
+}
+
+typedef rota_plan_answer plan_at(size_t, const uint64_t *, size_t, const uint64_t *, size_t, uint64_t, uint64_t *, size_t);
+typedef rota_number_answer plan_number(size_t, const uint64_t *, size_t, const uint64_t *, size_t, rota_plan, uint64_t *, size_t);
+
+/* The plan of a number and the number of a plan; the tally has the ways to give the slots of S to the last items. */
+static void plan_numbers(void)
+{
+    /* The calls go through pointers of the declared types; another type would not compile. */
+    plan_at *const at = rota_plan_at;
+    plan_number *const number_of = rota_plan_number;
+    static const uint64_t ways[8] = {1, 0, 1, 1, 1, 1, 2, 3}, short_opens[4] = {1, 1, 2, 14}, none[4] = {0};
+    const rota_plan listed[3] = {plan(0, 1, 2), plan(0, 2, 1), plan(1, 0, 2)};
+    rota_plan longer = plan(0, 2, 1);
+    uint64_t tally[LENT_WORDS];
+
+    for (unsigned k = 0; k < 3; k++) {
+        for (size_t words = 8; words <= LENT_WORDS; words++) {
+            lend_words(tally);
+            EXPECT(gives(at(T, k, tally, words), ROTA_DONE, listed[k], 0) && tally_of(tally, ways, 8));
+            lend_words(tally);
+            EXPECT(numbered(number_of(T, listed[k], tally, words), ROTA_DONE, k) && tally_of(tally, ways, 8));
+        }
+    }
+
+    /* No refusal changes the tally. Without a plan every number is refused. */
+    lend_words(tally);
+    EXPECT(gives(at(T, 3, tally, 8), ROTA_NO_SUCH_PLAN, blank(), 0));
+    EXPECT(gives(at(T, UINT64_MAX, tally, 8), ROTA_NO_SUCH_PLAN, blank(), 0));
+    EXPECT(gives(at(OPEN(4, short_opens), 0, tally, 16), ROTA_NO_SUCH_PLAN, blank(), 0));
+    EXPECT(gives(at(T, 0, tally, 7), ROTA_TALLY_TOO_SHORT, blank(), 0));
+    EXPECT(gives(at(T, 3, tally, 7), ROTA_TALLY_TOO_SHORT, blank(), 0));
+    EXPECT(gives(at(0, OPENS, 3, CALLOUTS, 3, 3, tally, 7), ROTA_BAD_N, blank(), 0));
+    EXPECT(gives(at(2, OPENS, 3, CALLOUTS, 3, 3, tally, 7), ROTA_BAD_TABLE_LENGTH, blank(), 0));
+    EXPECT(gives(at(2, OPENS, 2, CALLOUTS, 2, 3, tally, 3), ROTA_SLOT_OUTSIDE, blank(), 0));
+    EXPECT(gives(at(3, CALLOUTS, 3, OPENS, 3, 3, tally, 7), ROTA_CALLOUT_NOT_OPEN, blank(), 0));
+    longer.slots[63] = 1;
+    EXPECT(numbered(number_of(T, blank(), tally, 8), ROTA_NOT_A_PLAN, 0));
+    EXPECT(numbered(number_of(T, plan(2, 1, 0), tally, 8), ROTA_NOT_A_PLAN, 0));
+    EXPECT(numbered(number_of(T, plan(0, 1, 1), tally, 8), ROTA_NOT_A_PLAN, 0));
+    EXPECT(numbered(number_of(T, longer, tally, 8), ROTA_NOT_A_PLAN, 0));
+    EXPECT(numbered(number_of(OPEN(4, short_opens), plan(0, 0, 1), tally, 16), ROTA_NOT_A_PLAN, 0));
+    EXPECT(numbered(number_of(T, listed[2], tally, 7), ROTA_TALLY_TOO_SHORT, 0));
+    EXPECT(numbered(number_of(T, blank(), tally, 7), ROTA_TALLY_TOO_SHORT, 0));
+    EXPECT(numbered(number_of(0, OPENS, 3, CALLOUTS, 3, blank(), tally, 7), ROTA_BAD_N, 0));
+    EXPECT(numbered(number_of(2, OPENS, 3, CALLOUTS, 3, blank(), tally, 7), ROTA_BAD_TABLE_LENGTH, 0));
+    EXPECT(numbered(number_of(2, OPENS, 2, CALLOUTS, 2, blank(), tally, 3), ROTA_SLOT_OUTSIDE, 0));
+    EXPECT(numbered(number_of(3, CALLOUTS, 3, OPENS, 3, blank(), tally, 7), ROTA_CALLOUT_NOT_OPEN, 0));
+    EXPECT(tally_of(tally, ways, 0));
+}
+
+/* Every cell of 20 items open: 20! plans, the first with rising slots, the last with falling ones. 21 items are too many. */
+static void many_plan_numbers(void)
+{
+    static const uint64_t none[21] = {0};
+    const uint64_t plans = UINT64_C(2432902008176640000);
+    uint64_t all[21], *tally = (uint64_t *)malloc(sizeof *tally << 20);
+    rota_plan rising = plan(0, 0, 0), falling = rising, middle = rising;
+
+    EXPECT(tally != NULL);
+    for (unsigned i = 0; i < 21; i++) {
+        all[i] = ((uint64_t)1 << 20) - 1;
+    }
+    for (unsigned i = 0; i < 20; i++) {
+        rising.slots[i] = (uint8_t)i;
+        falling.slots[i] = (uint8_t)(19 - i);
+        /* Slot 10, then all others rising: half of the plans begin with a slot below 10. */
+        middle.slots[i] = (uint8_t)(i == 0 ? 10 : i <= 10 ? i - 1 : i);
+    }
+    EXPECT(gives(rota_plan_at(OPEN(20, all), 0, tally, (size_t)1 << 20), ROTA_DONE, rising, 0));
+    EXPECT(gives(rota_plan_at(OPEN(20, all), plans - 1, tally, (size_t)1 << 20), ROTA_DONE, falling, 0));
+    EXPECT(gives(rota_plan_at(OPEN(20, all), plans / 2, tally, (size_t)1 << 20), ROTA_DONE, middle, 0));
+    EXPECT(gives(rota_plan_at(OPEN(20, all), plans, tally, (size_t)1 << 20), ROTA_NO_SUCH_PLAN, blank(), 0));
+    EXPECT(numbered(rota_plan_number(OPEN(20, all), rising, tally, (size_t)1 << 20), ROTA_DONE, 0));
+    EXPECT(numbered(rota_plan_number(OPEN(20, all), falling, tally, (size_t)1 << 20), ROTA_DONE, plans - 1));
+    EXPECT(numbered(rota_plan_number(OPEN(20, all), middle, tally, (size_t)1 << 20), ROTA_DONE, plans / 2));
+    EXPECT(gives(rota_plan_at(OPEN(21, all), 0, tally, (size_t)1 << 20), ROTA_TOO_MANY_TO_COUNT, blank(), 0));
+    EXPECT(numbered(rota_plan_number(OPEN(21, all), rising, tally, (size_t)1 << 20), ROTA_TOO_MANY_TO_COUNT, 0));
+    free(tally);
+}
+
 static void files(void)
 {
     uint8_t file[ROTA_BLOCK_BYTES + 1], buffer[ROTA_MOST_ITEMS + 1];
@@ -304,6 +409,8 @@ int main(void)
     sheets();
     tables();
     without_a_tally();
+    plan_numbers();
+    many_plan_numbers();
     files();
     constants();
     texts();

@@ -41,6 +41,11 @@ SIZE(rota_count_answer, 16);
 FIELD(rota_count_answer, code, 0, 4);
 FIELD(rota_count_answer, count, 8, 8);
 
+/* Four bytes of padding after code. */
+SIZE(rota_number_answer, 16);
+FIELD(rota_number_answer, code, 0, 4);
+FIELD(rota_number_answer, number, 8, 8);
+
 /* Four bytes of padding after shortage. */
 SIZE(rota_grade_answer, 24);
 FIELD(rota_grade_answer, code, 0, 4);
@@ -69,6 +74,7 @@ static_assert(ROTA_CALLOUT_NOT_OPEN == 4 && ROTA_TOO_MANY_TO_COUNT == 5 && ROTA_
 static_assert(ROTA_BAD_FLEET == 7 && ROTA_NOT_A_PLAN == 8 && ROTA_NO_PLAN == 9, "7 to 9");
 static_assert(ROTA_NO_FURTHER_PLAN == 10 && ROTA_OVER_CAP == 11 && ROTA_BAD_FILE_LENGTH == 12, "10 to 12");
 static_assert(ROTA_BAD_CHECK == 13 && ROTA_BAD_LAYOUT == 14 && ROTA_OUTPUT_TOO_SHORT == 15, "13 to 15");
+static_assert(ROTA_NO_SUCH_PLAN == 16, "16");
 
 static_assert(ROTA_MOST_ITEMS == 64 && ROTA_MOST_COUNTED == 20, "items");
 static_assert(ROTA_BLOCK_BYTES == 512 && ROTA_FILE_BYTES == 1536, "bytes");

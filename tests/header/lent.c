@@ -37,6 +37,10 @@ static void no_tables(void)
     EXPECT(rota_grade_untallied(3, NO_TABLES).code == ROTA_BAD_TABLE_LENGTH);
     EXPECT(rota_monthly_price_untallied(0, NO_TABLES, 0).code == ROTA_BAD_N);
     EXPECT(rota_monthly_price_untallied(3, NO_TABLES, 0).code == ROTA_BAD_TABLE_LENGTH);
+    EXPECT(gives(rota_plan_at(0, NO_TABLES, 0, NULL, 0), ROTA_BAD_N, blank(), 0));
+    EXPECT(gives(rota_plan_at(3, NO_TABLES, 0, NULL, 0), ROTA_BAD_TABLE_LENGTH, blank(), 0));
+    EXPECT(rota_plan_number(0, NO_TABLES, plan(0, 1, 2), NULL, 0).code == ROTA_BAD_N);
+    EXPECT(rota_plan_number(3, NO_TABLES, plan(0, 1, 2), NULL, 0).code == ROTA_BAD_TABLE_LENGTH);
     EXPECT(rota_write_file(0, NO_TABLES, NULL, 0).code == ROTA_BAD_N);
 }
 
@@ -53,6 +57,12 @@ static void no_outputs(void)
     EXPECT(rota_count_plans(21, none, 21, none, 21, NULL, 0).code == ROTA_TOO_MANY_TO_COUNT);
     EXPECT(rota_grade(T, NULL, 0).code == ROTA_TALLY_TOO_SHORT);
     EXPECT(rota_monthly_price(T, 0, NULL, 0).code == ROTA_TALLY_TOO_SHORT);
+    EXPECT(gives(rota_plan_at(T, 0, NULL, 0), ROTA_TALLY_TOO_SHORT, blank(), 0));
+    EXPECT(gives(rota_plan_at(T, 3, NULL, 0), ROTA_TALLY_TOO_SHORT, blank(), 0));
+    EXPECT(gives(rota_plan_at(21, none, 21, none, 21, 0, NULL, 0), ROTA_TOO_MANY_TO_COUNT, blank(), 0));
+    EXPECT(rota_plan_number(T, plan(0, 1, 2), NULL, 0).code == ROTA_TALLY_TOO_SHORT);
+    EXPECT(rota_plan_number(T, blank(), NULL, 0).code == ROTA_TALLY_TOO_SHORT);
+    EXPECT(rota_plan_number(21, none, 21, none, 21, blank(), NULL, 0).code == ROTA_TOO_MANY_TO_COUNT);
     EXPECT(rota_write_file(T, NULL, 0).code == ROTA_OUTPUT_TOO_SHORT);
 
     EXPECT(rota_write_file(T, file, sizeof file).code == ROTA_DONE);
@@ -86,6 +96,7 @@ void overlapping_inputs(void)
     uint64_t usable[3], tally[8], opens[3], callouts[3];
     uint8_t file[ROTA_BLOCK_BYTES], page[4 * ROTA_LINE_BYTES];
     rota_price_answer price;
+    rota_number_answer number;
 
     EXPECT(gives(rota_first_plan(TWICE), ROTA_DONE, plan(0, 1, 2), 0));
     EXPECT(gives(rota_next_plan(TWICE, plan(0, 1, 2)), ROTA_DONE, plan(0, 2, 1), 0));
@@ -103,6 +114,9 @@ void overlapping_inputs(void)
     EXPECT(rota_count_plans_untallied(TWICE).count == 3);
     EXPECT(rota_grade_untallied(TWICE).grade == 3);
     EXPECT(rota_monthly_price_untallied(TWICE, 100).cents == 285 * 100 + 3 * 4500);
+    EXPECT(gives(rota_plan_at(TWICE, 2, tally, 8), ROTA_DONE, plan(1, 0, 2), 0));
+    number = rota_plan_number(TWICE, plan(1, 0, 2), tally, 8);
+    EXPECT(number.code == ROTA_DONE && number.number == 2 && tally[6] == 2);
     EXPECT(rota_write_file(TWICE, file, sizeof file).code == ROTA_DONE);
     EXPECT(rota_read_file(file, sizeof file, opens, 3, callouts, 3).n == 3);
     EXPECT(memcmp(opens, OPENS, sizeof opens) == 0 && memcmp(callouts, OPENS, sizeof callouts) == 0);
@@ -119,4 +133,7 @@ void overlapping_inputs(void)
     EXPECT(rota_count_plans_untallied(3, words, 3, words + 1, 3).count == 2);
     EXPECT(rota_grade_untallied(3, words, 3, words + 1, 3).grade == 2);
     EXPECT(rota_monthly_price_untallied(3, words, 3, words + 1, 3, 100).cents == 350 * 100 + 4500);
+    EXPECT(gives(rota_plan_at(3, words, 3, words + 1, 3, 1, tally, 8), ROTA_DONE, plan(0, 2, 1), 0));
+    number = rota_plan_number(3, words, 3, words + 1, 3, plan(0, 2, 1), tally, 8);
+    EXPECT(number.code == ROTA_DONE && number.number == 1);
 }

@@ -1,7 +1,7 @@
-"""Worked examples: `ROTA: asked → answer`, the table of worked rotas, the lister's table and the tally's. The library computes, the document expects."""
+"""Worked examples: `ROTA: asked → answer`, the table of worked rotas, the lister's table and the tallies'. The library computes, the document expects."""
 from document import Wrong, expect, match, number, numbers, span
 from library import FILL, left, words_of
-from rotas import holding, named, padded, rota_t
+from rotas import holding, named, padded, reverse, rota_t
 
 BLANK = bytes([255] * 64)
 FRESH = bytes(65)
@@ -100,7 +100,10 @@ class Asked:
         expect(got == wanted and answer.code == (10 if wanted else 9), text, "- the lister gives", [list(plan) for plan in got])
         for before, after in zip(wanted, wanted[1:]):
             agrees(self.library.next_plan(rota, before), 0, text, after)
-        return max(1, len(wanted)) + self.cells(rota, wanted, text)
+        for k, plan in enumerate(wanted):
+            self.both_ways(rota, k, plan, 1 << rota[0], text)
+        agrees(self.library.plan_at(rota, len(wanted), 1 << rota[0]), 16, text)
+        return max(1, len(wanted)) + 2 * len(wanted) + 1 + self.cells(rota, wanted, text)
 
     def cells(self, rota, plans, text):
         """Each cell's plan, inside of the rota and outside: the first of all its plans that holds the cell."""
@@ -165,6 +168,40 @@ class Asked:
             expect(held.endswith(FILL * 16), text, "- further words of the tally are changed")
         return 1
 
+    def both_ways(self, rota, k, plan, places, text):
+        """The plan has the number k and k gives the plan; the tally is then the one that the count leaves for the items in reverse order."""
+        tally = left(self.library.count_plans(reverse(rota), places), "tally")
+        found, back = self.library.plan_at(rota, k, places), self.library.plan_number(rota, plan, places)
+        agrees(found, 0, text, plan)
+        agrees(back, 0, text, number=k)
+        for answer in (found, back):
+            expect(left(answer, "tally") == tally and answer.changed == ["tally"], text, "- changed:", answer.changed)
+        return 2
+
+    def plan_at(self, rota, k, places, text):
+        k, expected = number(k), Expected(text)
+        expect(k < 1 << 64, "a number above 64 bits:", k)
+        if not expected.code:
+            return self.both_ways(rota, k, plan_of(text), places, text)
+        agrees(self.library.plan_at(rota, k, places), expected.code, text, **expected.brings)
+        return 1
+
+    def plan_number(self, rota, given, places, text):
+        given, expected = plan_of(given), Expected(text)
+        if not expected.code:
+            return self.both_ways(rota, number(text), given, places, text)
+        agrees(self.library.plan_number(rota, given, places), expected.code, text, **expected.brings)
+        return 1
+
+    def last_tally(self, rota, text):
+        """The tally that both calls leave, the first plan given and its number."""
+        places = (1 << rota[0]) + 3
+        for answer in (self.library.plan_at(rota, 0, places), self.library.plan_number(rota, self.library.first_plan(rota).plan, places)):
+            words = words_of(left(answer, "tally"))
+            expect(answer.code == 0 and list(words[:-3]) == numbers(text), text, "- the library writes", words)
+            expect(left(answer, "tally").endswith(FILL * 24), text, "- further words of the tally are changed")
+        return 2
+
     def untallied(self, text, call, tallied, name):
         """The answer of a call without a tally, which is also that of the call with one."""
         expected = Expected(text)
@@ -184,7 +221,8 @@ class Asked:
         """One example."""
         words = asked.split(" ")
         tally = 2 + (1 << min(rota[0], 20))
-        by_name = {"plans": self.plans, "first plan": self.first_plan, "usable table": self.usable, "tally": self.tally, "file": self.file}
+        by_name = {"plans": self.plans, "first plan": self.first_plan, "usable table": self.usable, "tally": self.tally,
+                   "tally of the last items": self.last_tally, "file": self.file}
         if asked in by_name:
             return by_name[asked](rota, text)
         if asked == "count":
@@ -201,6 +239,12 @@ class Asked:
             return self.untallied(text, self.library.count_plans_untallied(rota), self.library.count_plans(rota, tally), "count")
         if asked == "grade, no tally":
             return self.untallied(text, self.library.grade_untallied(rota), self.library.grade(rota, tally), "grade")
+        if words[0] == "plan":
+            k, _, places = match("plan number #(, tally of # words)?", asked)
+            return self.plan_at(rota, k, tally if places is None else number(places), text)
+        if words[0] == "number":
+            given, _, places = match("number of ([0-9 ]+)(, tally of # words)?", asked)
+            return self.plan_number(rota, given, tally if places is None else number(places), text)
         if words[0] == "fewest":
             return self.fewest(rota, *match("fewest callouts, cap #", asked), text)
         if words[0] == "next":

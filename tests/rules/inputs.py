@@ -5,7 +5,7 @@ from examples import BLANK
 from refusals import Input
 from rotas import padded, plain
 
-ON_TABLES = (1, 2, 3, 4, 5, 6, 7, 8, 9, 10, 11, 15)
+ON_TABLES = (1, 2, 3, 4, 5, 6, 7, 8, 9, 10, 11, 15, 16)
 OUTSIDE = 0  # wanted beside these numbers: a cell outside of the rota, which is no refusal
 ON_FILES = (12, 13, 14, 3, 4, 15, 8, 9, 10, 11)
 
@@ -56,7 +56,8 @@ def on_tables(wanted, longer=(0, 1)):
         tally = 0  # what n asks for is much, and a call that tests n looks no further
     short = 15 in wanted
     return Input((n, tuple(opens), tuple(callouts)), None, given(wanted, n)[:64], 0 if 11 in wanted else 64, 0 if 7 in wanted else 100,
-                 n - 1 if short and n else n + 2, 511 if short else 1536, tally, (n, 0) if OUTSIDE in wanted else (0, 1), page(n) - short)
+                 n - 1 if short and n else n + 2, 511 if short else 1536, tally, (n, 0) if OUTSIDE in wanted else (0, 1), page(n) - short,
+                 2 if 16 in wanted else 1)
 
 
 def on_file(layout, wanted, n=2):
@@ -74,14 +75,14 @@ def on_file(layout, wanted, n=2):
 
 
 def tables_at_bounds(bounds):
-    """n, lengths of tables, tallies and fleets around what the document names and around what is known, each alone."""
+    """n, lengths of tables, tallies, fleets and plan numbers around what the document names and around what is known, each alone."""
     good = on_tables(set())
     sizes = {n + more for n in bounds[1] + (1, 64) for more in (-1, 0, 1)} - {-1}
     for n in sorted(sizes):
         yield good._replace(rota=plain([1 << i if i < 64 else 0 for i in range(n)]), given=padded(range(min(n, 64))), words=n, bytes=1536, tally=1 << min(n, 8),
-                            page=page(n))
+                            page=page(n), number=0)
     for n in sorted({bounds[5][0], bounds[5][0] + 1, 20, 21}):
-        yield good._replace(rota=plain([1 << i for i in range(n)]), given=padded(range(n)), words=n, tally=1 << n, page=page(n))
+        yield good._replace(rota=plain([1 << i for i in range(n)]), given=padded(range(n)), words=n, tally=1 << n, page=page(n), number=0)
     for longer in ((1, 0), (-1, 0), (0, -1), (1, 1), (-1, -1), (-2, -2)):
         yield on_tables({2}, longer)
     for tally in (0, 1, 2, 3, 4, 5, bounds[6][0] ** 2 - 1):
@@ -92,6 +93,8 @@ def tables_at_bounds(bounds):
         yield good._replace(words=words, bytes=size)
     for bytes_ in (0, 32, 64, 95, 96, 97, 128):
         yield good._replace(page=bytes_)
+    for number in (0, 1, 2, 3, 1 << 32, 1 << 63, 2 ** 64 - 1):
+        yield good._replace(number=number)
     for slots in ([0, 2], [64, 1], [0, 65], [255, 1], [0, 1, 1], [0, 1] + [0] * 61 + [1]):
         yield good._replace(given=padded(slots))
 

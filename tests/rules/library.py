@@ -26,6 +26,10 @@ class CountAnswer(ctypes.Structure):
     _fields_ = [("code", ctypes.c_uint32), ("count", ctypes.c_uint64)]
 
 
+class NumberAnswer(ctypes.Structure):
+    _fields_ = [("code", ctypes.c_uint32), ("number", ctypes.c_uint64)]
+
+
 class GradeAnswer(ctypes.Structure):
     _fields_ = [("code", ctypes.c_uint32), ("grade", ctypes.c_uint32), ("shortage", ctypes.c_uint32), ("items", ctypes.c_uint64)]
 
@@ -52,8 +56,16 @@ class Lent:
         self.pointer = ctypes.c_void_p(ctypes.addressof(self.view) + len(GUARD))
 
     def after(self):
+        """The same object where nothing is changed, so that an answer that is kept has a long tally once."""
         assert self.memory.startswith(GUARD) and self.memory.endswith(GUARD), "written outside of what was lent"
-        return bytes(self.memory[len(GUARD):-len(GUARD)])
+        after = bytes(self.memory[len(GUARD):-len(GUARD)])
+        return self.before if after == self.before else after
+
+
+@functools.lru_cache(maxsize=None)
+def filled(places):
+    """A tally before the call."""
+    return FILL * 8 * places
 
 
 def words_of(data):
@@ -133,17 +145,17 @@ class Library:
 
     @functools.lru_cache(maxsize=None)
     def count_plans(self, rota, places):
-        tally = Lent(FILL * 8 * places)
+        tally = Lent(filled(places))
         return self.on_tables("rota_count_plans", CountAnswer, rota, [(tally, 8)], [("tally", tally)])
 
     @functools.lru_cache(maxsize=None)
     def grade(self, rota, places):
-        tally = Lent(FILL * 8 * places)
+        tally = Lent(filled(places))
         return self.on_tables("rota_grade", GradeAnswer, rota, [(tally, 8)], [("tally", tally)])
 
     @functools.lru_cache(maxsize=None)
     def monthly_price(self, rota, vehicles, places):
-        tally = Lent(FILL * 8 * places)
+        tally = Lent(filled(places))
         return self.on_tables("rota_monthly_price", PriceAnswer, rota, [ctypes.c_uint64(vehicles), (tally, 8)], [("tally", tally)])
 
     @functools.lru_cache(maxsize=None)
@@ -157,6 +169,16 @@ class Library:
     @functools.lru_cache(maxsize=None)
     def monthly_price_untallied(self, rota, vehicles):
         return self.on_tables("rota_monthly_price_untallied", PriceAnswer, rota, [ctypes.c_uint64(vehicles)])
+
+    @functools.lru_cache(maxsize=None)
+    def plan_at(self, rota, k, places):
+        tally = Lent(filled(places))
+        return self.on_tables("rota_plan_at", PlanAnswer, rota, [ctypes.c_uint64(k), (tally, 8)], [("tally", tally)])
+
+    @functools.lru_cache(maxsize=None)
+    def plan_number(self, rota, given, places):
+        tally = Lent(filled(places))
+        return self.on_tables("rota_plan_number", NumberAnswer, rota, [Plan.from_buffer_copy(given), (tally, 8)], [("tally", tally)])
 
     @functools.lru_cache(maxsize=None)
     def write_file(self, rota, places):

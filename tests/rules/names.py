@@ -9,10 +9,11 @@ from library import FILL
 from rotas import rota_t
 
 ANSWERS = {"plan": "plan", "item set": "items", "shortage": "shortage", "fewest number": "callouts", "count": "count", "grade": "grade", "price": "cents",
-           "number of bytes": "bytes", "n": "n"}
+           "plan number": "number", "number of bytes": "bytes", "n": "n"}
 
 GETS = {"given": "a plan", "lister": "a lister", "cap": "the cap r", "item": "an item", "slot": "a slot", "page": "a page", "usable": "a table",
-        "tally": "a tally", "vehicles": "vehicles", "file": "a buffer", "opens": "two tables", "callouts": "two tables", "plan": "a plan buffer"}
+        "tally": "a tally", "vehicles": "vehicles", "k": "the plan number k", "file": "a buffer", "opens": "two tables", "callouts": "two tables",
+        "plan": "a plan buffer"}
 
 
 def read(path):
@@ -79,6 +80,8 @@ def on_t(library, t, name, file):
         "rota_count_plans_untallied": lambda: library.count_plans_untallied(t),
         "rota_grade_untallied": lambda: library.grade_untallied(t),
         "rota_monthly_price_untallied": lambda: library.monthly_price_untallied(t, 100),
+        "rota_plan_at": lambda: library.plan_at(t, 1, 19),
+        "rota_plan_number": lambda: library.plan_number(t, given, 19),
         "rota_write_file": lambda: library.write_file(t, 1600),
         "rota_read_file": lambda: library.read_file(file, 9, 9),
         "rota_file_first_plan": lambda: library.file_first_plan(file, FILL * 80),

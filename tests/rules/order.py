@@ -5,7 +5,7 @@ from files import Layout
 from inputs import ON_FILES, ON_TABLES, OUTSIDE, chosen, files_at_bounds, on_file, on_tables, tables_at_bounds
 from library import FILL, left
 from refusals import FILES, NEVER_BOTH, TABLES, Numbers, fits
-from rotas import holding, plans
+from rotas import holding, plans, reverse
 from sheets import Columns
 
 
@@ -56,6 +56,14 @@ class Order:
             expect(answer.plan in (None, BLANK) and not answer.changed, call, wanted, "- a plan, or changed:", answer.changed)
         elif call == "`rota_cell_plan`":
             agrees(answer, 0, "%s %d %d of %s" % (call, *x.cell, str(x.rota)[:300]), holding(plans(x.rota), x.rota[0], *x.cell) or BLANK)
+        elif call in ("`rota_plan_at`", "`rota_plan_number`"):
+            found, what = plans(x.rota), "%s of %s" % (call, str(x)[:300])
+            if call == "`rota_plan_at`":
+                agrees(answer, 0, what, found[x.number])
+            else:
+                agrees(answer, 0, what, number=found.index(x.given))
+            tally = left(self.library.count_plans(reverse(x.rota), x.tally), "tally")
+            expect(left(answer, "tally") == tally and answer.changed == ["tally"], what, "- changed:", answer.changed)
         elif call == "`rota_plan_sheet`":
             sheet = self.sheets.sheet_of(x.rota, x.given)
             expect(left(answer, "page") == sheet + FILL * (x.page - len(sheet)), call, "of", str(x)[:300], "- writes", left(answer, "page"))

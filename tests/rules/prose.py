@@ -9,6 +9,7 @@ from pricing import GRADED, rules
 from rotas import named, plain, rota_t, with_plans
 
 B = plain([7, 6, 6])  # the rota that is graded step by step, for its brittle item
+LAST = bytes([1, 0, 2]) + bytes(61)  # T's last plan
 
 # A rule, a sentence of it with # for each number, and the names of what is found out below; a name may stand for some numbers in a row.
 SENTENCES = (
@@ -43,6 +44,23 @@ SENTENCES = (
     ("Without a tally", "The last product, #, is the number of ways", "ways-of-t"),
     ("Without a tally", "and # are left.", "untallied-of-t"),
     ("Without a tally", "A tally of # items has # words, which are # MiB", "most-counted words-of-tally mib-of-tally"),
+    ("Plan numbers", "the first plan has the number #, and the last one has the count less #.", "first-number last-less"),
+    ("Plan numbers", "a number k, any #-bit number,", "number"),
+    ("Plan numbers", "at [call k + #]", "call-more"),
+    ("Plan numbers", "counts from #, and has it at position k + # if it goes so far.", "first-position position-more"),
+    ("Plan numbers", "Both are for n up to # and are lent", "most-numbered"),
+    ("Plan numbers", "They test # to # as the count does. Then `rota_plan_at` tests k: # if it is not below the count.", "bad-n short-tally no-such-plan"),
+    ("Plan numbers", "without a complete plan every k is #.", "no-such-plan-at-all"),
+    ("Plan numbers", "tests the given plan: # if that is no complete plan of this rota, with [# in the bytes from n on]", "no-number unused"),
+    ("Plan numbers", "Neither gives #. Refused, with # and # too,", "no-plan too-many-numbered short-tally"),
+    ("Plan numbers", "`rota_plan_number` the number #, and", "refused-number"),
+    ("Plan numbers", "for each S from # below # to the power n,", "least-set tally-base"),
+    ("Plan numbers", "word # is #, and the last of these words is the count", "least-set none-given"),
+    ("Plan numbers", "Word # is #: slot # is not open to item #.", "closed-of-t"),
+    ("Plan numbers", "Word # is #: slots # and # can go to items # and # either way.", "either-of-t"),
+    ("Plan numbers", "For plan # of T slot # of item # is passed over: its word is #, and # is left of k.", "walk-of-t"),
+    ("Plan numbers", "Slot # has the word #, so item # gets it; then item # gets slot # and item # gets slot #.", "taken-of-t"),
+    ("Plan numbers", "for # # # it is #.", "last-of-t"),
     ("Lister", "the first plan, or #, and never #", "no-plan not-a-plan"),
     ("Lister", ": # if that is no complete plan of this rota, # if none follows", "not-a-plan no-further"),
     ("Lister", "each further call gives #", "no-further"),
@@ -77,9 +95,9 @@ SENTENCES = (
     ("Listing program", "After # plans, if one more follows, the last line is `more #`", "listed listed"),
     ("Listing program", "Every line ends with byte #.", "line-end"),
     ("Order of tests", "# over all blocks before # over any, # over all items before #.", "check layout outside not-open"),
-    ("Order of tests", "# comes right after #", "no-room not-open"),
+    ("Order of tests", "# comes right after # and # right after #,", "no-room not-open no-such-plan short-tally"),
     ("Zeros", "what # and # bring", "no-plan over-cap"),
-    ("Lent things", "With # grade and price leave the tally as it was", "no-plan"),
+    ("Lent things", "With # grade and price leave the tally as it was, with # and # the calls for plan numbers do.", "no-plan no-such-plan no-number"),
 )
 
 
@@ -96,19 +114,19 @@ def diagonal(n):
 
 def codes(library, t):
     """The numbers that refused calls give."""
-    none, last = plain([0, 3]), bytes([1, 0, 2]) + bytes(61)
+    none = plain([0, 3])
     file = bytearray(library.write_file(t, 512).lent[-1][2])
     wrong_check = bytes(file[:-1]) + b"\0"
     file[13], file[510] = 1, file[510] + 1
     return {
         "no-plan": library.first_plan(none).code,
         "not-a-plan": library.next_plan(t, bytes(64)).code,
-        "no-further": library.next_plan(t, last).code,
+        "no-further": library.next_plan(t, LAST).code,
         "over-cap": library.fewest_callouts(t, 0).code,
         "too-many": library.count_plans(diagonal(21), 0).code,
         "short-tally": library.count_plans(t, 0).code,
         "no-room": library.usable_slots(t, 0).code,
-        "no-page": library.plan_sheet(t, last, 0).code,
+        "no-page": library.plan_sheet(t, LAST, 0).code,
         "no-sheet": library.plan_sheet(t, bytes(64), 150).code,
         "no-sheet-at-all": library.plan_sheet(none, bytes([0, 1]) + bytes(62), 150).code,
         "bad-n": library.first_plan(plain([])).code,
@@ -142,6 +160,61 @@ def untallied(library, t):
     return {"untallied-none": library.count_plans_untallied(none).numbers["count"], "too-many-untallied": library.count_plans_untallied(diagonal(21)).code,
             "no-plan-untallied": library.grade_untallied(none).code, "bad-fleet": library.monthly_price_untallied(t, 0).code,
             "untallied-of-t": library.count_plans_untallied(t).numbers["count"], "ways-of-t": ways, "words-of-tally": words, "mib-of-tally": words * 8 >> 20}
+
+
+def positions(library, program, t):
+    """How often a fresh lister is called until it gives T's last plan; the first and the last position that the listing program writes."""
+    lister, calls = bytes(65), 0
+    while lister[1:] != LAST and calls < 10:
+        lister, calls = left(library.list_plan(t, lister), "lister"), calls + 1
+    lines = program.text(left(library.write_file(t, 512), "file")).split("\n")[1:-2]
+    return calls, int(lines[0].split(":")[0]), int(lines[-1].split(":")[0])
+
+
+def walk(words, opens, k, plan):
+    """By the tally, what is passed over for plan k as (slot, item, word, what is left of k), and what is taken as (slot, word, item)."""
+    free, passed, taken = (1 << len(opens)) - 1, [], []
+    for item, word in enumerate(opens):
+        for slot in ones(word & free):
+            ways = words[free & ~(1 << slot)]
+            if slot == plan[item]:
+                taken.append((slot, ways, item))
+                break
+            k -= ways
+            passed.append((slot, item, ways, k))
+        free &= ~(1 << plan[item])
+    return passed, taken
+
+
+def numbered(library, program, t):
+    """What the calls for plan numbers answer, and how T's last plan is found."""
+    n, count, found = t[0], library.count_plans(t, 8).numbers["count"], library.plan_number(t, LAST, 8)
+    k, words = found.numbers["number"], words_of(left(found, "tally"))
+    calls, first_position, last_position = positions(library, program, t)
+    ((passed,), (first, second, third)) = walk(words, t[1], k, LAST)
+    closed, either = (next(ones(word) for word in range(1 << n) if words[word] == ways) for ways in (0, 2))
+    not_open, both = (sum(1 << slot for slot in slots) for slots in (closed, either))
+    return {
+        "first-number": library.plan_number(t, library.first_plan(t).plan, 8).numbers["number"],
+        "last-less": count - k,
+        "call-more": calls - k,
+        "first-position": first_position,
+        "position-more": last_position - k,
+        "most-numbered": least(lambda n: n > 0 and library.plan_at(diagonal(n), 0, 0).code == 5) - 1,
+        "no-such-plan": library.plan_at(t, count, 8).code,
+        "no-such-plan-at-all": library.plan_at(plain([0, 3]), 0, 4).code,
+        "no-number": library.plan_number(t, bytes(64), 8).code,
+        "unused": next(byte for byte in range(256) if library.plan_number(t, LAST[:n] + bytes([byte]) + LAST[n + 1:], 8).code == 0),
+        "too-many-numbered": library.plan_at(diagonal(21), 0, 0).code,
+        "refused-number": library.plan_number(t, bytes(64), 8).numbers["number"],
+        "least-set": 0,
+        "none-given": words[0],
+        "closed-of-t": [not_open, words[not_open], *closed, n - 1],
+        "either-of-t": [both, words[both], *either, n - 2, n - 1],
+        "walk-of-t": [k, *passed],
+        "taken-of-t": [*first, second[2], second[0], third[2], third[0]],
+        "last-of-t": [*library.plan_at(t, k, 8).plan[:n], k],
+    }
 
 
 def ones(word):
@@ -207,15 +280,15 @@ def numbers_in(doc, title, sentence):
 
 
 def prose(doc, library, program, header, places=None):
-    """Each number of each sentence; `places` gets their places in the document. The bits of a cap, of an item and of a slot are the header's."""
+    """Each number of each sentence; `places` gets their places in the document. The bits of a cap, of an item, of a slot and of a number are the header's."""
     t, text, compared = rota_t(doc), "\n".join(doc.lines), 0
     with open(header) as page:
         declared = page.read()
     (bits,) = set(re.findall(r"uint(\d+)_t cap\b", declared))
     expect(re.search(r"rota_cell_plan\([^;]*\bsize_t item,\s+size_t slot\);", declared), "a cell's item or slot is no size_t")
-    (counted,) = re.findall(r"uint(\d+)_t count;", declared)
-    known = {"cap": int(bits), "size": 8 * ctypes.sizeof(ctypes.c_size_t), "count": int(counted), **codes(library, t), **price(doc, library, t),
-             **brittle(doc, library, t), **untallied(library, t), **figures(library, program, t)}
+    (counted,), (numbered_by,) = re.findall(r"uint(\d+)_t count;", declared), re.findall(r"uint(\d+)_t k\b", declared)
+    known = {"cap": int(bits), "size": 8 * ctypes.sizeof(ctypes.c_size_t), "count": int(counted), "number": int(numbered_by), **codes(library, t),
+             **price(doc, library, t), **brittle(doc, library, t), **untallied(library, t), **numbered(library, program, t), **figures(library, program, t)}
     for title, sentence, names in SENTENCES:
         found, wanted = numbers_in(doc, title, sentence), []
         for name in names.split():

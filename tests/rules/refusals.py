@@ -23,6 +23,7 @@ FITS = {
     13: "the check of a block is wrong",
     14: "a byte of a header or of an unused place is not as laid out, n is not # to #, or the blocks are not as many as n needs",
     15: "an output other than the tally has fewer places than a success would write",
+    16: "the plan number k is not below the count",
 }
 BRINGS = {"": (), "item set, shortage": ("items", "shortage"), "fewest number": ("callouts",)}
 
@@ -41,6 +42,8 @@ TABLES = {
     "`rota_count_plans_untallied`": lambda library, x: library.count_plans_untallied(x.rota),
     "`rota_grade_untallied`": lambda library, x: library.grade_untallied(x.rota),
     "`rota_monthly_price_untallied`": lambda library, x: library.monthly_price_untallied(x.rota, x.vehicles),
+    "`rota_plan_at`": lambda library, x: library.plan_at(x.rota, x.number, x.tally),
+    "`rota_plan_number`": lambda library, x: library.plan_number(x.rota, x.given, x.tally),
     "`rota_write_file`": lambda library, x: library.write_file(x.rota, x.bytes),
 }
 FILES = {
@@ -58,8 +61,8 @@ NEVER_BOTH = {
 }
 
 # What a call may be given: a rota in tables or a file's bytes, a plan, a cap, vehicles, the room of a table in words, of a buffer in bytes and of the tally,
-# a cell, its item and its slot, and the bytes of a page.
-Input = collections.namedtuple("Input", "rota data given cap vehicles words bytes tally cell page", defaults=[(0, 1), 0])
+# a cell, its item and its slot, the bytes of a page, and a plan number.
+Input = collections.namedtuple("Input", "rota data given cap vehicles words bytes tally cell page number", defaults=[(0, 1), 0, 0])
 
 
 class Numbers:
@@ -143,4 +146,5 @@ def fits(numbers_, layout, sheets, call, code, x):
         9: lambda: not plans(rota),
         10: lambda: not any(plan > x.given[:64] for plan in plans(rota)),
         11: lambda: bool(plans(rota)) and min(callouts_of(rota, plan) for plan in plans(rota)) > x.cap,
+        16: lambda: x.number >= len(plans(rota)),
     }[code]()

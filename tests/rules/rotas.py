@@ -3,6 +3,7 @@
 A rota is (n, open words, callout words), as a call gets it; it may be one that is refused.
 """
 import functools
+import itertools
 
 from document import Wrong, expect, match, number, numbers
 
@@ -66,6 +67,23 @@ def plans(rota):
         return tuple((j,) + tail for j in range(n) if free >> j & 1 for tail in rest(i + 1, taken | 1 << j))
 
     return tuple(padded(slots) for slots in rest(0, 0))
+
+
+def reverse(rota):
+    """The rota whose items stand in reverse order."""
+    n, opens, callouts = rota
+    return n, opens[::-1], callouts[::-1]
+
+
+def last_counts(rota):
+    """For each set of slots the number of ways to give them, all of them, to the last items, as many as the set has bits."""
+    n, opens, _ = rota
+
+    def ways(slots):
+        items = opens[n - len(slots):]
+        return sum(all(word >> slot & 1 for word, slot in zip(items, given)) for given in itertools.permutations(slots))
+
+    return [ways([slot for slot in range(n) if word >> slot & 1]) for word in range(1 << n)]
 
 
 def holding(found, n, item, slot):

@@ -14,6 +14,7 @@ import examples
 import files
 import names
 import order
+import plan_numbers
 import pricing
 import prose
 import refusals
@@ -25,10 +26,11 @@ from library import Library
 
 # How many examples of each kind the document has. Another number fails.
 EXAMPLES = {
-    "example lines": 108,
+    "example lines": 139,
     "columns of a sheet": 7,
     "lines of sheets": 16,
     "sets of Ryser's formula": 8,
+    "beginnings of plans": 9,
     "lister calls": 9,
     "grade rules": 5,
     "graded rotas": 7,
@@ -37,12 +39,12 @@ EXAMPLES = {
     "rows of a file's bytes": 11,
     "lines of T's dump": 5,
     "listings": 6,
-    "refusals in C": 15,
-    "pairs of tests": 320,
-    "calls": 18,
-    "sentences with numbers": 67,
-    "words": 23,
-    "rules linked": 36,
+    "refusals in C": 16,
+    "pairs of tests": 362,
+    "calls": 20,
+    "sentences with numbers": 84,
+    "words": 26,
+    "rules linked": 37,
 }
 
 
@@ -60,6 +62,7 @@ class Rules:
             "columns of a sheet": lambda doc: sheets.columns(doc, library),
             "lines of sheets": lambda doc: sheets.shown(doc, library),
             "sets of Ryser's formula": lambda doc: untallied.formula(doc, library),
+            "beginnings of plans": lambda doc: plan_numbers.beginnings(doc, library, self.program),
             "lister calls": lambda doc: examples.lister(doc, library),
             "grade rules": lambda doc: pricing.grades(doc, library),
             "graded rotas": lambda doc: pricing.graded(doc, library),

@@ -17,6 +17,7 @@ mod model;
 mod next;
 mod permanent;
 mod plan;
+pub mod rank;
 pub mod rota;
 mod ryser;
 mod sheet;

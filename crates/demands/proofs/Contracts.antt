@@ -9,6 +9,7 @@ use Rattle.model.specs.declared.Plan.{Plan}
 use Rattle.model.specs.declared.PlanAnswer.{PlanAnswer}
 use Rattle.model.specs.declared.Lister.{Lister}
 use Rattle.model.specs.declared.CountAnswer.{CountAnswer}
+use Rattle.model.specs.declared.NumberAnswer.{NumberAnswer}
 use Rattle.model.specs.declared.GradeAnswer.{GradeAnswer}
 use Rattle.model.specs.declared.PriceAnswer.{PriceAnswer}
 use Rattle.model.specs.declared.ReadAnswer.{ReadAnswer}
@@ -19,10 +20,11 @@ use Rattle.model.specs.SheetAnswers.{sheetCode, sheetAfter}
 use Rattle.model.specs.UsableAnswers.{usableCode, usableAfter}
 use Rattle.model.specs.CountAnswers.{untalliedCount, countAnswer, countTally}
 use Rattle.model.specs.PriceAnswers.{untalliedGrade, gradeAnswer, gradeTally, untalliedPrice, priceAnswer, priceTally}
+use Rattle.model.specs.NumberAnswers.{planAtAnswer, planAtTally, planNumberAnswer, planNumberTally}
 use Rattle.model.specs.FileAnswers.{readAnswer, readOpens, readCallouts, writeAnswer, writeFile, fileFirst, fileNext, fileFewest, bufferAfter}
 use Rattle.demands.specs.Calls.{ListCall, EachFirst, EachNext, EachFewest, EachCell, EachSheet, EachList, EachUsable, EachCount, EachGrade, EachPrice}
 use Rattle.demands.specs.Calls.{EachUntalliedCount, EachUntalliedGrade, EachUntalliedPrice, EachRead, EachWrite, EachFileFirst, EachFileNext}
-use Rattle.demands.specs.Calls.{EachFileFewest, AskNothing}
+use Rattle.demands.specs.Calls.{EachFileFewest, EachPlanAt, EachPlanNumber, AskNothing}
 
 pub first-each : (Q : ℕ → List ℕ → List ℕ → PlanAnswer → Type 0)
     → ((n : ℕ) (opens callouts : List ℕ) → Q n opens callouts (firstAnswer n n opens callouts)) → EachFirst Q
@@ -100,6 +102,18 @@ pub untallied-price-each : (Q : ℕ → List ℕ → List ℕ → ℕ → PriceA
 unfolding EachUntalliedPrice
 untallied-price-each Q f κs a r s l = subst⁻¹ (Q _ _ _ _) l (f _ _ _ _)
 
+pub plan-at-each : (Q : ℕ → List ℕ → List ℕ → ℕ → List ℕ → PlanAnswer → List ℕ → Type 0)
+    → ((n : ℕ) (opens callouts : List ℕ) (k : ℕ) (tally : List ℕ)
+    → Q n opens callouts k tally (planAtAnswer n n opens callouts k (length tally)) (planAtTally n n opens callouts k tally)) → EachPlanAt Q
+unfolding EachPlanAt
+plan-at-each Q f κs a r s l = subst₂ (Q _ _ _ _ _) (sym (l .0)) (sym (l .1)) (f _ _ _ _ _)
+
+pub plan-number-each : (Q : ℕ → List ℕ → List ℕ → Plan → List ℕ → NumberAnswer → List ℕ → Type 0)
+    → ((n : ℕ) (opens callouts : List ℕ) (g : Plan) (tally : List ℕ)
+    → Q n opens callouts g tally (planNumberAnswer n n opens callouts g (length tally)) (planNumberTally n n opens callouts g tally)) → EachPlanNumber Q
+unfolding EachPlanNumber
+plan-number-each Q f κs a r s l = subst₂ (Q _ _ _ _ _) (sym (l .0)) (sym (l .1)) (f _ _ _ _ _)
+
 pub read-each : {Q : List ℕ → List ℕ → List ℕ → ReadAnswer → List ℕ → List ℕ → Type 0}
     → ((file o k : List ℕ) (r : ReadAnswer) (o′ k′ : List ℕ) → r ≡ readAnswer Edition.One file (length o) (length k) → o′ ≡ readOpens Edition.One file o k
     → k′ ≡ readCallouts Edition.One file o k → Q file o k r o′ k′) → EachRead Q
@@ -146,6 +160,8 @@ ask-nothing =
       count-plans-untallied = λ κs a. tt;
       grade-untallied = λ κs a. tt;
       monthly-price-untallied = λ κs a. tt;
+      plan-at = λ κs a. tt;
+      plan-number = λ κs a. tt;
       read-file = λ κs a. tt;
       write-file = λ κs a. tt;
       file-first-plan = λ κs a. tt;

@@ -2,8 +2,8 @@
 -- 8, 9, 10 and 11 are found. Assumes nothing.
 use mathlib.Core.Path.{_≡_, refl, sym, ap, _∙_}
 use mathlib.Core.Logic.{_⊎_, inl, inr, ⊎-elim, _↔_}
-use mathlib.Core.Bool.{true, false, cond, false≢true}
-use mathlib.Core.List.{List, [], _∷_, _++_, List·Memᴰ, List·Memᴰ·head, List·Memᴰ·cases-cons, List·Memᴰ·not-nil}
+use mathlib.Core.Bool.{Bool, true, false, cond, false≢true}
+use mathlib.Core.List.{List, [], _∷_, _++_, map, List·Memᴰ, List·Memᴰ·head, List·Memᴰ·cases-cons, List·Memᴰ·not-nil}
 use Prim.Native.Nat.{ℕ, _^_, _<_, _≤_}
 use native.Mathlib.Nat.{lt-of-lt-of-le}
 use native.Mathlib.Omega.{arith}
@@ -13,6 +13,7 @@ use lib.Pow.{pow-mono}
 use lib.Seq.{drop-at}
 use lib.Dec.{leb}
 use Rattle.words.specs.Word.{bit}
+use Rattle.words.specs.Sum.{below}
 use Rattle.words.proofs.Sums.{map-below, length-map-below}
 use Rattle.model.specs.Lists.{Before, Chain}
 use Rattle.model.specs.Refusal.{orElse, written, planCode}
@@ -21,7 +22,7 @@ use Rattle.model.specs.Plans.{plans, plansAfter, IsPlan, isPlan}
 use Rattle.model.specs.Fewest.{fewest, fewestPlans}
 use Rattle.model.specs.Deficiency.{deficiency, deficientSet}
 use Rattle.model.specs.Allowed.{allowedWords}
-use Rattle.model.specs.Count.{subsetCount, subsetCounts, count}
+use Rattle.model.specs.Count.{subsetCount, subsetCounts, lastCount, lastCounts, count}
 use Rattle.model.specs.Grade.{someForced}
 use Rattle.model.specs.PlanAnswers.{given, overCap, noPlan, firstOf, firstFrom, nextOf, nextFrom, fewestOf, fewestFrom}
 use Rattle.model.specs.PriceAnswers.{gradeBy, priceBy}
@@ -36,6 +37,11 @@ use Rattle.model.proofs.Fewest.{fewest-le, fewest-member, fewest-number, fewest
 use Rattle.maximum.proofs.Hall.{hall}
 use Rattle.demands.specs.Demand2.{IsFirst, IsNext, IsFewestPlan, IsFewest, IsShort, Tallied, Brittle}
 use Rattle.demands.specs.Tests.{Test, FirstOf, test8, test9, test10, test11}
+
+-- a code of 0 for the plan
+pub is-complete : (b : Bool) → planCode b ≡ 0 → b ≡ true
+is-complete true e = refl
+is-complete false e = absurd (omega arith)
 
 -- the members of a rising list are its head or follow it
 head-least : (p : List ℕ) (l : List (List ℕ)) → Chain Before (p ∷ l) → (q : List ℕ) → List·Memᴰ q (p ∷ l) → (q ≡ p) ⊎ Before p q
@@ -183,10 +189,6 @@ module _ (n m : ℕ) (opens callouts : List ℕ) (ok : tableCode n m opens callo
 
 -- ---- the tally
 
-length-counts : (n : ℕ) (opens : List ℕ) → length (subsetCounts n opens) ≡ 2 ^ n
-unfolding subsetCounts
-length-counts n opens = length-map-below (subsetCount n opens) (2 ^ n)
-
 -- a table that was written over the front of an older one
 pub front-at : (values old : List ℕ) (i : ℕ) → i < length values → getD (values ++ drop (length values) old) i 0 ≡ getD values i 0
 front-at values old i h = List·getD-append values (drop (length values) old) 0 i h
@@ -194,11 +196,17 @@ front-at values old i h = List·getD-append values (drop (length values) old) 0 
 pub further-kept : (values old : List ℕ) (k : ℕ) → length values ≡ k → drop k (values ++ drop (length values) old) ≡ drop k old
 further-kept values old k e = drop-at values (drop (length values) old) k e ∙ ap (λ j. drop j old) e
 
-pub tallied-is : (n : ℕ) (opens old : List ℕ) {code : ℕ} → code ≡ 0 → Tallied n opens old (written code (subsetCounts n opens) old)
-unfolding written subsetCounts
-tallied-is n opens old z =
-    rw z
-    (record {
-      sets = λ set h. front-at (subsetCounts n opens) old set (omega (arith, length-counts n opens)) ∙ map-below (subsetCount n opens) 0 (2 ^ n) set h;
-      further = further-kept (subsetCounts n opens) old (2 ^ n) (length-counts n opens);
-    })
+tallied : (n : ℕ) (word : ℕ → ℕ) (old : List ℕ) {code : ℕ} → code ≡ 0 → Tallied n word old (written code (map word (below (2 ^ n))) old)
+unfolding written
+tallied n word old z =
+    let values = map word (below (2 ^ n)) in
+    let size = length-map-below word (2 ^ n) in
+    rw z (record { sets = λ set h. front-at values old set (omega arith) ∙ map-below word 0 (2 ^ n) set h; further = further-kept values old (2 ^ n) size })
+
+pub tallied-is : (n : ℕ) (opens old : List ℕ) {code : ℕ} → code ≡ 0 → Tallied n (subsetCount n opens) old (written code (subsetCounts n opens) old)
+unfolding subsetCounts
+tallied-is n opens = tallied n (subsetCount n opens)
+
+pub last-tallied-is : (n : ℕ) (opens old : List ℕ) {code : ℕ} → code ≡ 0 → Tallied n (lastCount n opens) old (written code (lastCounts n opens) old)
+unfolding lastCounts
+last-tallied-is n opens = tallied n (lastCount n opens)

@@ -3,7 +3,8 @@ use mathlib.Core.Path.{_≡_, refl, sym, ap, _∙_, subst}
 use mathlib.Core.Logic.{_≢_}
 use mathlib.Core.Bool.{Bool, true, false, cond}
 use mathlib.Core.List.{List, [], _∷_}
-use Prim.Native.Nat.{ℕ, zero, suc, _+_, _*_, _^_}
+use Prim.Native.Nat.{ℕ, zero, suc, _+_, _*_, _^_, _≤_}
+use lib.Dec.{leb}
 use lib.ListN.{length, take}
 use Rattle.model.specs.declared.Plan.{Plan}
 use Rattle.model.specs.declared.PlanAnswer.{PlanAnswer}
@@ -12,7 +13,8 @@ use Rattle.model.specs.declared.WriteAnswer.{WriteAnswer}
 use Rattle.model.specs.Refusal.{orElse, unless, written, fleetCode, roomCode}
 use Rattle.model.specs.Rota.{tableCode}
 use Rattle.model.specs.CellPlans.{cellPlan}
-use Rattle.model.specs.Count.{count}
+use Rattle.model.specs.Plans.{blank}
+use Rattle.model.specs.Count.{count, permanent}
 use Rattle.model.specs.declared.Edition.{Edition}
 use Rattle.model.specs.File.{blocksFor, fileCode, itemsIn, slotsIn, opensIn, calloutsIn}
 use Rattle.model.specs.PlanAnswers.{given, refused, firstAnswer, nextAnswer, fewestAnswer, cellAnswer}
@@ -21,19 +23,22 @@ use Rattle.model.specs.SheetAnswers.{sheetCode, sheetAfter}
 use Rattle.model.specs.UsableAnswers.{usableAfter}
 use Rattle.model.specs.CountAnswers.{countUnless, sizedCode, untalliedCount, countCode, countAnswer, countTally}
 use Rattle.model.specs.PriceAnswers.{priceBy, untalliedGrade, gradeAnswer, gradeTally, untalliedPriceCode, untalliedPrice, priceCode, priceAnswer, priceTally}
+use Rattle.model.specs.Ranks.{unrank, rank}
+use Rattle.model.specs.NumberAnswers.{planAtCode, planAtAnswer, planAtTally, numberGiven, numberRefused, planNumberCode, planNumberAnswer, planNumberTally}
 use Rattle.model.specs.FileAnswers.{readRefused, readCode, readAnswer, readOpens, readCallouts, writeRefused, writeCode, writeAnswer, writeFile, planFileCode}
 use Rattle.model.specs.FileAnswers.{onFile, bufferAfter}
 use Rattle.model.proofs.Refusals.{or-none, or-assoc, or-later, nothing-written}
 use Rattle.model.proofs.Codes.{first-code, next-code, fewest-code, cell-code, count-code, grade-code, price-code, read-code, write-code, on-file-code}
-use Rattle.model.proofs.Codes.{untallied-count-code, untallied-grade-code, untallied-price-code}
+use Rattle.model.proofs.Codes.{untallied-count-code, untallied-grade-code, untallied-price-code, plan-at-code, plan-number-code}
+use Rattle.model.proofs.Permanent.{permanent-is-count}
 use Rattle.model.proofs.Files.{accepted-file}
 use Rattle.model.proofs.Listing.{refused-keeps}
-use Rattle.demands.specs.Tests.{Test, FirstOf, test5, test6, test7, test8, test9, test10, test11, test15, tables, fileTests}
+use Rattle.demands.specs.Tests.{Test, FirstOf, test5, test6, test7, test8, test9, test10, test11, test15, test16, tables, fileTests}
 use Rattle.demands.specs.Demand1.{Refused, Demand1}
 use Rattle.demands.proofs.Contracts.{first-each, next-each, fewest-each, cell-each, sheet-each, list-each, usable-each, count-each, grade-each}
 use Rattle.demands.proofs.Contracts.{price-each, untallied-count-each, untallied-grade-each, untallied-price-each, read-each, write-each}
-use Rattle.demands.proofs.Contracts.{file-first-each, file-next-each, file-fewest-each, ask-nothing}
-use Rattle.demands.proofs.TestLaws.{none-fits, tables-first, file-first, either, equals, less, test-first, room-first}
+use Rattle.demands.proofs.Contracts.{file-first-each, file-next-each, file-fewest-each, plan-at-each, plan-number-each, ask-nothing}
+use Rattle.demands.proofs.TestLaws.{Tells, none-fits, tables-first, file-first, either, equals, less, not-above, test-first, room-first}
 use Rattle.demands.proofs.Definitions.{first-tests, plan-first, next-tests, fewest-tests, grade-tests, price-tests}
 use Rattle.demands.proofs.Outcomes.{first-says, next-says, list-says, fewest-says, sized-tested, untallied-price-tested, count-tested, price-tested}
 use Rattle.demands.proofs.Outcomes.{grade-says, price-says}
@@ -126,6 +131,21 @@ module _ (n : ℕ) (opens callouts : List ℕ) where
       rw (price-code n n opens callouts (length tally) vehicles, or-assoc (countCode n n opens callouts (length tally)))
       (counted tally _ _ (fleet-says vehicles _))
 
+  plan-at-number : (k : ℕ) (tally : List ℕ)
+      → FirstOf (tables n opens callouts (test5 n ∷ test6 n tally ∷ test16 n opens k ∷ [])) (planAtAnswer n n opens callouts k (length tally) .code)
+  unfolding planAtCode
+  plan-at-number k tally =
+      let fits : Tells (leb (count n opens) k) (permanent n opens ≤ k) = subst (λ c. Tells (leb c k) (permanent n opens ≤ k)) (permanent-is-count n opens) (not-above _ k) in
+      rw (plan-at-code n n opens callouts (length tally) k)
+      (counted tally _ _ (λ ok. last _ _ _ (test-first (test16 n opens k) 15 _ refl fits [] 0 (λ z. none-fits)) refl))
+
+  plan-number-number : (g : Plan) (tally : List ℕ)
+      → FirstOf (tables n opens callouts (test5 n ∷ test6 n tally ∷ test8 opens (g .slots) ∷ [])) (planNumberAnswer n n opens callouts g (length tally) .code)
+  unfolding planNumberCode
+  plan-number-number g tally =
+      rw (plan-number-code n n opens callouts (length tally) g)
+      (counted tally _ _ (λ ok. last _ _ _ (plan-first n n opens callouts ok (g .slots) [] 0 none-fits) refl))
+
 module _ (file : List ℕ) where
   abbrev n : ℕ
   n = itemsIn file
@@ -157,6 +177,18 @@ zero-cell n opens callouts i j =
     let answer : ℕ → PlanAnswer = λ c. unless refused c (given (cellPlan n opens i j) 0) in
     elim (tableCode n n opens callouts) as (λ c. answer c .code ≢ 0 → Refused (answer c)) [ zero ↦ λ d. absurd (d refl) | suc c ↦ λ d. search refl ]
 
+-- the blank plan and zeros
+zero-plan : (code : ℕ) (p : List ℕ)
+    → let r = unless refused code (given p 0) in r .code ≢ 0 → (r .plan .slots ≡ blank) × (r .shortage ≡ 0) × (r .items ≡ 0) × (r .callouts ≡ 0)
+unfolding unless
+zero-plan zero p d = absurd (d refl)
+zero-plan (suc c) p d = (refl, refl, refl, refl)
+
+zero-number : (code k : ℕ) → let r = unless numberRefused code (numberGiven k) in r .code ≢ 0 → r .number ≡ 0
+unfolding unless
+zero-number zero k d = absurd (d refl)
+zero-number (suc c) k d = refl
+
 zero-count : (code n : ℕ) (opens : List ℕ) → countUnless code n opens .code ≢ 0 → countUnless code n opens .count ≡ 0
 unfolding countUnless
 zero-count zero n opens d = absurd (d refl)
@@ -184,7 +216,7 @@ kept r code values old new e q d = q ∙ sym (nothing-written r code d (sym e) v
 
 pub demand1 : Demand1
 unfolding listerAfter sheetAfter usableAfter countTally gradeTally priceTally untalliedCount untalliedGrade untalliedPrice
-    readOpens readCallouts writeCode writeFile bufferAfter
+    planAtAnswer planAtTally planNumberAnswer planNumberTally readOpens readCallouts writeCode writeFile bufferAfter
 demand1 =
     record {
       anything = ask-nothing;
@@ -201,6 +233,8 @@ demand1 =
       untallied-count-code = untallied-count-each _ untallied-count-number;
       untallied-grade-code = untallied-grade-each _ untallied-grade-number;
       untallied-price-code = untallied-price-each _ untallied-price-number;
+      plan-at-code = plan-at-each _ plan-at-number;
+      plan-number-code = plan-number-each _ plan-number-number;
       read-code = read-each (λ file o k r o′ k′ e w x. by _ _ _ (ap (λ x. x .code) e) (read-says file o k));
       write-code = write-each (λ n o k old r new e w.
           by _ _ _ (ap (λ x. x .code) e ∙ write-code n n o k (length old)) (room-says n o k old (512 * blocksFor n)));
@@ -226,6 +260,8 @@ demand1 =
       untallied-count-refused = untallied-count-each _ (λ n o k. zero-count (sizedCode n n o k) n o);
       untallied-grade-refused = untallied-grade-each _ (λ n o k. grade-says n o k (sized-tested n o k) .0);
       untallied-price-refused = untallied-price-each _ (λ n o k v. price-says n o k (untallied-price-tested n o k v) v .0);
+      plan-at-refused = plan-at-each _ (λ n o c k tally. zero-plan (planAtCode n n o c k (length tally)) (unrank n o k));
+      plan-number-refused = plan-number-each _ (λ n o c g tally. zero-number (planNumberCode n n o c g (length tally)) (rank n o (g .slots)));
       read-refused = read-each (λ file o k r o′ k′ e w x. subst (λ (x : ReadAnswer). x .code ≢ 0 → x .n ≡ 0) (sym e) (zero-items file (length o) (length k)));
       write-refused = write-each (λ n o k old r new e w. subst (λ (x : WriteAnswer). x .code ≢ 0 → x .bytes ≡ 0) (sym e) (zero-bytes n o k (length old)));
       list-keeps = list-each _ (λ e n o k. refused-keeps e (listerAnswer e n n o k));
@@ -234,6 +270,8 @@ demand1 =
       count-keeps = count-each _ (λ n o k tally. kept _ _ _ tally _ refl refl);
       grade-keeps = grade-each _ (λ n o k tally. kept _ _ _ tally _ refl refl);
       price-keeps = price-each _ (λ n o k v tally. kept _ _ _ tally _ refl refl);
+      plan-at-keeps = plan-at-each _ (λ n o c k tally. kept _ _ _ tally _ refl refl);
+      plan-number-keeps = plan-number-each _ (λ n o c g tally. kept _ _ _ tally _ refl refl);
       read-keeps = read-each (λ file o k r o′ k′ e w x d.
           let q = ap (λ x. x .code) e ∙ read-code Edition.One file (length o) (length k) in
           (kept (r .code) _ _ o o′ q w d, kept (r .code) _ _ k k′ q x d));

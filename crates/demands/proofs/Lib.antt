@@ -9,3 +9,4 @@ pub mod UsedCells
 pub mod PlanSheets
 pub mod BrittleItems
 pub mod Untallied
+pub mod PlanNumbers

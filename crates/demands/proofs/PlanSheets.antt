@@ -1,6 +1,5 @@
 -- What is asked of a plan's sheet holds of the calls. Assumes nothing.
 use mathlib.Core.Path.{_≡_, refl, sym, ap, _∙_}
-use mathlib.Core.Bool.{Bool, true, false}
 use mathlib.Core.List.{List, [], _∷_, _++_}
 use Prim.Native.Nat.{ℕ, _+_, _*_, _<_, _≤_}
 use native.Mathlib.Omega.{arith}
@@ -19,11 +18,7 @@ use Rattle.model.proofs.Parts.{take-drop-take}
 use Rattle.model.proofs.Sheet.{Fits, plan-fits, line-columns, item-columns, sheet-length, sheet-heading, sheet-line, same-sheet}
 use Rattle.demands.specs.PlanSheets.{PlanSheets}
 use Rattle.demands.proofs.Contracts.{sheet-each}
-
--- a code of 0 for the plan
-is-complete : (b : Bool) → planCode b ≡ 0 → b ≡ true
-is-complete true e = refl
-is-complete false e = absurd (omega arith)
+use Rattle.demands.proofs.Definitions.{is-complete}
 
 module _ (n : ℕ) (opens callouts : List ℕ) (g : Plan) (old : List ℕ) (z : sheetCode n n opens callouts g (length old) ≡ 0) where
   abbrev page : List ℕ

@@ -54,6 +54,9 @@ equals a b = record { yes-so = eqb-true a b; no-so = eqb-false a b }
 pub less : (a b : ℕ) → Tells (ltb a b) (a < b)
 less a b = record { yes-so = ltb-true a b; no-so = λ e h. let l = ltb-false a b e in omega arith }
 
+pub not-above : (a b : ℕ) → Tells (leb a b) (a ≤ b)
+not-above a b = record { yes-so = leb-true a b; no-so = λ e h. let l = leb-false a b e in omega arith }
+
 -- ---- 3 and 4
 
 some-slot : (k w : ℕ) → w ≤ k → 0 < w → (j : ℕ) × (bit w j ≡ 1)

@@ -16,6 +16,7 @@ use Rattle.model.specs.declared.Plan.{Plan}
 use Rattle.model.specs.declared.PlanAnswer.{PlanAnswer}
 use Rattle.model.specs.declared.Lister.{Lister}
 use Rattle.model.specs.declared.CountAnswer.{CountAnswer}
+use Rattle.model.specs.declared.NumberAnswer.{NumberAnswer}
 use Rattle.model.specs.declared.GradeAnswer.{GradeAnswer}
 use Rattle.model.specs.declared.PriceAnswer.{PriceAnswer}
 use Rattle.model.specs.declared.ReadAnswer.{ReadAnswer}
@@ -45,6 +46,10 @@ use Rattle.rota.proofs.untallied.rota_grade_untallied as untallied-grade
 use Rattle.rota.proofs.untallied.rota_grade_untallied.Reads as untallied-grade-reads
 use Rattle.rota.proofs.untallied.rota_monthly_price_untallied as untallied-price
 use Rattle.rota.proofs.untallied.rota_monthly_price_untallied.Reads as untallied-price-reads
+use Rattle.rota.proofs.numbers.rota_plan_at as plan-at
+use Rattle.rota.proofs.numbers.rota_plan_at.Reads as plan-at-reads
+use Rattle.rota.proofs.numbers.rota_plan_number as plan-number
+use Rattle.rota.proofs.numbers.rota_plan_number.Reads as plan-number-reads
 use Rattle.rota.proofs.files.rota_read_file as read
 use Rattle.rota.proofs.files.rota_read_file.Reads as read-reads
 use Rattle.rota.proofs.files.rota_write_file as write
@@ -128,6 +133,17 @@ unfoldable pub EachUntalliedPrice : (ℕ → List ℕ → List ℕ → ℕ → P
 EachUntalliedPrice P = (κs : Lfts 2) (a : Args untallied-price.signature κs) (r : Res untallied-price.signature κs) (s : AtExit untallied-price.ended κs)
     → untallied-price-reads.Learnt κs a r s → P (a .0) (now (a .1 .0)) (now (a .1 .1 .0)) (a .1 .1 .1 .0) r
 
+-- ---- plans by their numbers
+
+unfoldable pub EachPlanAt : (ℕ → List ℕ → List ℕ → ℕ → List ℕ → PlanAnswer → List ℕ → Type 0) → Type 0
+EachPlanAt P = (κs : Lfts 3) (a : Args plan-at.signature κs) (r : Res plan-at.signature κs) (s : AtExit plan-at.ended κs) → plan-at-reads.Learnt κs a r s
+    → P (a .0) (now (a .1 .0)) (now (a .1 .1 .0)) (a .1 .1 .1 .0) (now (a .1 .1 .1 .1 .0)) r (now (s .1 .1 .1 .1 .0))
+
+unfoldable pub EachPlanNumber : (ℕ → List ℕ → List ℕ → Plan → List ℕ → NumberAnswer → List ℕ → Type 0) → Type 0
+EachPlanNumber P = (κs : Lfts 3) (a : Args plan-number.signature κs) (r : Res plan-number.signature κs) (s : AtExit plan-number.ended κs)
+    → plan-number-reads.Learnt κs a r s
+    → P (a .0) (now (a .1 .0)) (now (a .1 .1 .0)) (a .1 .1 .1 .0) (now (a .1 .1 .1 .1 .0)) r (now (s .1 .1 .1 .1 .0))
+
 -- ---- files
 
 unfoldable pub EachRead : (List ℕ → List ℕ → List ℕ → ReadAnswer → List ℕ → List ℕ → Type 0) → Type 0
@@ -165,6 +181,8 @@ pub record AskNothing : Type 2 where
   pub count-plans-untallied : (κs : Lfts 2) (a : Args untallied-count.signature κs) → untallied-count-reads.Asked κs a
   pub grade-untallied : (κs : Lfts 2) (a : Args untallied-grade.signature κs) → untallied-grade-reads.Asked κs a
   pub monthly-price-untallied : (κs : Lfts 2) (a : Args untallied-price.signature κs) → untallied-price-reads.Asked κs a
+  pub plan-at : (κs : Lfts 3) (a : Args plan-at.signature κs) → plan-at-reads.Asked κs a
+  pub plan-number : (κs : Lfts 3) (a : Args plan-number.signature κs) → plan-number-reads.Asked κs a
   pub read-file : (κs : Lfts 3) (a : Args read.signature κs) → read-reads.Asked κs a
   pub write-file : (κs : Lfts 3) (a : Args write.signature κs) → write-reads.Asked κs a
   pub file-first-plan : (κs : Lfts 2) (a : Args file-first.signature κs) → file-first-reads.Asked κs a

@@ -13,8 +13,8 @@ use Rattle.model.specs.Plans.{blank}
 use Rattle.model.specs.File.{blocksFor, itemsIn, opensIn, calloutsIn}
 use Rattle.demands.specs.Calls.{EachFirst, EachNext, EachFewest, EachCell, EachSheet, EachList, EachUsable, EachCount, EachGrade, EachPrice, EachRead}
 use Rattle.demands.specs.Calls.{EachUntalliedCount, EachUntalliedGrade, EachUntalliedPrice, EachWrite, EachFileFirst, EachFileNext, EachFileFewest}
-use Rattle.demands.specs.Calls.{AskNothing}
-use Rattle.demands.specs.Tests.{FirstOf, test5, test6, test7, test8, test9, test10, test11, test15, tables, fileTests}
+use Rattle.demands.specs.Calls.{EachPlanAt, EachPlanNumber, AskNothing}
+use Rattle.demands.specs.Tests.{FirstOf, test5, test6, test7, test8, test9, test10, test11, test15, test16, tables, fileTests}
 
 -- a refused answer: the blank plan; item set and shortage 0 but with 9, callouts 0 but with 11
 pub record Refused (r : PlanAnswer) : Type 0 where
@@ -44,6 +44,10 @@ pub record Demand1 : Type 2 where
   pub untallied-grade-code : EachUntalliedGrade (λ n opens callouts r. FirstOf (tables n opens callouts (test5 n ∷ test9 opens ∷ [])) (r .code))
   pub untallied-price-code : EachUntalliedPrice (λ n opens callouts vehicles r.
       FirstOf (tables n opens callouts (test5 n ∷ test7 vehicles ∷ test9 opens ∷ [])) (r .code))
+  -- 16 is tested after 6
+  pub plan-at-code : EachPlanAt (λ n opens callouts k tally r new. FirstOf (tables n opens callouts (test5 n ∷ test6 n tally ∷ test16 n opens k ∷ [])) (r .code))
+  pub plan-number-code : EachPlanNumber (λ n opens callouts g tally r new.
+      FirstOf (tables n opens callouts (test5 n ∷ test6 n tally ∷ test8 opens (g .slots) ∷ [])) (r .code))
   pub read-code : EachRead (λ file o k r o′ k′. FirstOf (fileTests file (test15 o (itemsIn file) ∷ test15 k (itemsIn file) ∷ [])) (r .code))
   pub write-code : EachWrite (λ n opens callouts old r new. FirstOf (tables n opens callouts (test15 old (512 * blocksFor n) ∷ [])) (r .code))
   pub file-first-code : EachFileFirst (λ file old r new. FirstOf (fileTests file (test15 old 64 ∷ test9 (opensIn file) ∷ [])) r)
@@ -66,6 +70,9 @@ pub record Demand1 : Type 2 where
       r .code ≢ 0 → (r .grade ≡ 0) × (r .code ≢ 9 → (r .shortage ≡ 0) × (r .items ≡ 0)))
   pub untallied-price-refused : EachUntalliedPrice (λ n opens callouts vehicles r.
       r .code ≢ 0 → (r .cents ≡ 0) × (r .code ≢ 9 → (r .shortage ≡ 0) × (r .items ≡ 0)))
+  pub plan-at-refused : EachPlanAt (λ n opens callouts k tally r new.
+      r .code ≢ 0 → (r .plan .slots ≡ blank) × (r .shortage ≡ 0) × (r .items ≡ 0) × (r .callouts ≡ 0))
+  pub plan-number-refused : EachPlanNumber (λ n opens callouts g tally r new. r .code ≢ 0 → r .number ≡ 0)
   pub read-refused : EachRead (λ file o k r o′ k′. r .code ≢ 0 → r .n ≡ 0)
   pub write-refused : EachWrite (λ n opens callouts old r new. r .code ≢ 0 → r .bytes ≡ 0)
   -- "and changes no lent buffer and no lister"
@@ -75,6 +82,8 @@ pub record Demand1 : Type 2 where
   pub count-keeps : EachCount (λ n opens callouts tally r new. r .code ≢ 0 → new ≡ tally)
   pub grade-keeps : EachGrade (λ n opens callouts tally r new. r .code ≢ 0 → new ≡ tally)
   pub price-keeps : EachPrice (λ n opens callouts vehicles tally r new. r .code ≢ 0 → new ≡ tally)
+  pub plan-at-keeps : EachPlanAt (λ n opens callouts k tally r new. r .code ≢ 0 → new ≡ tally)
+  pub plan-number-keeps : EachPlanNumber (λ n opens callouts g tally r new. r .code ≢ 0 → new ≡ tally)
   pub read-keeps : EachRead (λ file o k r o′ k′. r .code ≢ 0 → (o′ ≡ o) × (k′ ≡ k))
   pub write-keeps : EachWrite (λ n opens callouts old r new. r .code ≢ 0 → new ≡ old)
   pub file-first-keeps : EachFileFirst (λ file old r new. r ≢ 0 → new ≡ old)

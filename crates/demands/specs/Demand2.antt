@@ -53,9 +53,10 @@ pub record IsShort (opens : List ℕ) (shortage items : ℕ) : Type 0 where
   pub greatest : (other : ℕ) → other < 2 ^ length opens → shortBy opens other ≤ shortage
   pub smallest : (other : ℕ) → other < 2 ^ length opens → shortBy opens other ≡ shortage → (i : ℕ) → bit items i ≤ bit other i
 
--- the tally of a success: word S has the number of ways to give the slots of S, all of them, to the first items; further words are kept
-pub record Tallied (n : ℕ) (opens old new : List ℕ) : Type 0 where
-  pub sets : (set : ℕ) → set < 2 ^ n → getD new set 0 ≡ subsetCount n opens set
+-- the tally of a success: word S is that of the set S, and further words are kept. The set's word is the number of ways to give its slots, all of
+-- them, to the first items, or to the last
+pub record Tallied (n : ℕ) (word : ℕ → ℕ) (old new : List ℕ) : Type 0 where
+  pub sets : (set : ℕ) → set < 2 ^ n → getD new set 0 ≡ word set
   pub further : drop (2 ^ n) new ≡ drop (2 ^ n) old
 
 -- item i is brittle: just one slot is usable to it
@@ -83,7 +84,7 @@ pub record Demand2 : Type 1 where
   -- with 11 the fewest number
   pub over : EachFewest (λ n opens callouts cap r. r .code ≡ 11 → IsFewest opens callouts (r .callouts))
   -- "the count, usable table": the count is the permanent
-  pub count : EachCount (λ n opens callouts tally r new. r .code ≡ 0 → (r .count ≡ permanent n opens) × Tallied n opens tally new)
+  pub count : EachCount (λ n opens callouts tally r new. r .code ≡ 0 → (r .count ≡ permanent n opens) × Tallied n (subsetCount n opens) tally new)
   pub untallied-count : EachUntalliedCount (λ n opens callouts r. r .code ≡ 0 → r .count ≡ permanent n opens)
   pub usable : EachUsable (λ n opens callouts old r new. r ≡ 0
       → ((i j : ℕ) → i < n → (bit (getD new i 0) j ≡ 1) ↔ ((p : List ℕ) × IsPlan opens p × (getD p i 0 ≡ j))) × (drop n new ≡ drop n old))
@@ -97,9 +98,9 @@ pub record Demand2 : Type 1 where
   pub untallied-price-short : EachUntalliedPrice (λ n opens callouts vehicles r. r .code ≡ 9 → IsShort opens (r .shortage) (r .items))
   -- "grade and price"
   pub grade : EachGrade (λ n opens callouts tally r new. r .code ≡ 0
-      → Graded (permanent n opens) opens (r .grade) × Tallied n opens tally new × (r .shortage ≡ 0) × (r .items ≡ 0))
+      → Graded (permanent n opens) opens (r .grade) × Tallied n (subsetCount n opens) tally new × (r .shortage ≡ 0) × (r .items ≡ 0))
   pub price : EachPrice (λ n opens callouts vehicles tally r new. r .code ≡ 0
-      → Priced n opens callouts vehicles (r .cents) × Tallied n opens tally new × (r .shortage ≡ 0) × (r .items ≡ 0))
+      → Priced n opens callouts vehicles (r .cents) × Tallied n (subsetCount n opens) tally new × (r .shortage ≡ 0) × (r .items ≡ 0))
   pub untallied-grade : EachUntalliedGrade (λ n opens callouts r. r .code ≡ 0
       → Graded (permanent n opens) opens (r .grade) × (r .shortage ≡ 0) × (r .items ≡ 0))
   pub untallied-price : EachUntalliedPrice (λ n opens callouts vehicles r. r .code ≡ 0

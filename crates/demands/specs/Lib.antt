@@ -7,3 +7,4 @@ pub mod UsedCells
 pub mod PlanSheets
 pub mod BrittleItems
 pub mod Untallied
+pub mod PlanNumbers

@@ -9,6 +9,7 @@ use Rattle.words.specs.Word.{bit}
 use Rattle.model.specs.Lists.{any, Before}
 use Rattle.model.specs.Plans.{IsPlan}
 use Rattle.model.specs.Fewest.{calloutsOf}
+use Rattle.model.specs.Count.{permanent}
 use Rattle.model.specs.declared.Edition.{Edition}
 use Rattle.model.specs.File.{blocksIn, itemsIn, opensIn, calloutsIn, checkWrong, laidOut}
 
@@ -81,6 +82,10 @@ test14 file = record { number = 14; given-when = laidOut Edition.One (itemsIn fi
 -- a lent output is shorter than what is to be written
 abbrev pub test15 : List ℕ → ℕ → Test
 test15 output wanted = record { number = 15; given-when = length output < wanted }
+
+-- k is not below the count, which is the permanent
+abbrev pub test16 : ℕ → List ℕ → ℕ → Test
+test16 n opens k = record { number = 16; given-when = permanent n opens ≤ k }
 
 -- of tables, then others: "Calls on tables test by rising number, but 15 right after 4"
 abbrev pub tables : ℕ → List ℕ → List ℕ → List Test → List Test

@@ -8,6 +8,7 @@ use Rattle.model.specs.declared.PlanAnswer.{PlanAnswer}
 use Rattle.model.specs.declared.CountAnswer.{CountAnswer}
 use Rattle.model.specs.declared.GradeAnswer.{GradeAnswer}
 use Rattle.model.specs.declared.PriceAnswer.{PriceAnswer}
+use Rattle.model.specs.declared.NumberAnswer.{NumberAnswer}
 use Rattle.model.specs.declared.ReadAnswer.{ReadAnswer}
 use Rattle.model.specs.declared.WriteAnswer.{WriteAnswer}
 use Rattle.model.specs.Refusal.{orElse, unless}
@@ -20,6 +21,7 @@ use Rattle.model.specs.PlanAnswers.{refused, firstFrom, firstAnswer, nex
 use Rattle.model.specs.CountAnswers.{countRefused, countUnless, sizedCode, untalliedCount, countCode, countAnswer}
 use Rattle.model.specs.PriceAnswers.{gradeRefused, gradeBy, gradeUnless, untalliedGrade, gradeAnswer, priceRefused, priceBy, priceUnless}
 use Rattle.model.specs.PriceAnswers.{untalliedPriceCode, untalliedPrice, priceCode, priceAnswer}
+use Rattle.model.specs.NumberAnswers.{planAtCode, planAtAnswer, numberRefused, planNumberCode, planNumberAnswer}
 use Rattle.model.specs.FileAnswers.{readRefused, readCode, readAnswer, writeRefused, writeCode, writeAnswer, planFileCode, onFile}
 use Rattle.model.proofs.Refusals.{or-none, unless-code}
 
@@ -87,6 +89,15 @@ module _ (n m : ℕ) (opens callouts : List ℕ) where
         (priceBy opens (count m opens) (monthlyPrice (rotaGrade m opens) vehicles (fewest m opens callouts)) .code)
     unfolding priceAnswer
     price-code vehicles = priced-code (priceCode n m opens callouts vehicles words) m opens callouts vehicles
+
+    pub plan-at-code : (k : ℕ) → planAtAnswer n m opens callouts k words .code ≡ planAtCode n m opens callouts k words
+    unfolding planAtAnswer
+    plan-at-code k = plan-code (planAtCode n m opens callouts k words) _ ∙ or-none _
+
+    pub plan-number-code : (g : Plan) → planNumberAnswer n m opens callouts g words .code ≡ planNumberCode n m opens callouts g words
+    unfolding planNumberAnswer
+    plan-number-code g =
+        unless-code (λ (x : NumberAnswer). x .code) numberRefused (λ c. refl) (planNumberCode n m opens callouts g words) _ ∙ or-none _
 
   pub write-code : (places : ℕ) → writeAnswer n m opens callouts places .code ≡ writeCode n m opens callouts places
   unfolding writeAnswer

@@ -22,6 +22,8 @@ pub mod Ways
 pub mod Supports
 pub mod Subsets
 pub mod Ryser
+pub mod LastItems
+pub mod Ranks
 pub mod Parts
 pub mod Editions
 pub mod FileBlocks

@@ -2,7 +2,7 @@
 use mathlib.Core.Path.{_≡_, refl, sym, ap, ap₂, _∙_, subst}
 use mathlib.Core.Logic.{_≢_, _⊎_, inl, inr}
 use mathlib.Core.Bool.{Bool, true, false, not, cond, _&&_, _||_, and-eq-true-iff, and-assoc}
-use mathlib.Core.List.{List, [], _∷_, _++_, flatMap, List·Memᴰ, List·Memᴰ·head, List·Memᴰ·tail, List·Memᴰ·not-nil, List·Memᴰ·cases-cons, List·Memᴰ·append-cases}
+use mathlib.Core.List.{List, [], _∷_, _++_, map, flatMap, List·Memᴰ, List·Memᴰ·head, List·Memᴰ·tail, List·Memᴰ·not-nil, List·Memᴰ·cases-cons, List·Memᴰ·append-cases}
 use mathlib.Core.List.{Memᴰ·append-left, Memᴰ·append-right}
 use Prim.Native.Nat.{ℕ, zero, suc, _<_, _≤_}
 use native.Mathlib.Nat.{suc-inj}
@@ -165,6 +165,11 @@ pub mem-at : {A : Type 0} (d : A) (l : List A) (i : ℕ) → i < length l → Li
 mem-at d [] i h = absurd (omega arith)
 mem-at d (x ∷ l) zero h = List·Memᴰ·head refl
 mem-at d (x ∷ l) (suc i) h = List·Memᴰ·tail (mem-at d l i (omega arith))
+
+pub map-at : {A B : Type 0} (f : A → B) (d : A) (e : B) (l : List A) (i : ℕ) → i < length l → getD (map f l) i e ≡ f (getD l i d)
+map-at f d e [] i h = absurd (omega arith)
+map-at f d e (x ∷ l) zero h = refl
+map-at f d e (x ∷ l) (suc i) h = map-at f d e l i (omega arith)
 
 pub place-of : {A : Type 0} {x : A} (d : A) (l : List A) → List·Memᴰ x l → (i : ℕ) × (i < length l) × (getD l i d ≡ x)
 place-of d [] h = absurd (List·Memᴰ·not-nil h)

@@ -107,6 +107,16 @@ padded-zero p i h g =
     ∙ getD-append-add p (replicate (64 - length p) 0) (i - length p) 0
     ∙ getD-replicate (64 - length p) (i - length p) 0 0 (omega arith)
 
+-- a record is that of its first n bytes, if the further ones are 0
+pub padded-take : (n : ℕ) (p : List ℕ) → n ≤ 64 → length p ≡ 64 → ((i : ℕ) → n ≤ i → i < 64 → getD p i 0 ≡ 0) → padded (take n p) ≡ p
+padded-take n p few sized zeros =
+    let q = take n p in
+    let size : length q ≡ n = length-take-le n p (omega arith) in
+    ext-getD 0 (padded q) p (padded-length q (omega arith) ∙ sym sized) (λ i l.
+    let fits : i < 64 = omega (arith, padded-length q (omega arith)) in
+    elim (decLt i n)
+    [ yes g ↦ padded-at q i (omega arith) ∙ getD-take n p i 0 g | no g ↦ padded-zero q i (omega arith) fits ∙ sym (zeros i (omega arith) fits) ])
+
 padded-before : (p q : List ℕ) → length p ≡ length q → Before p q → Before (padded p) (padded q)
 unfolding padded
 padded-before p q e h = subst (λ k. Before (padded p) (q ++ replicate (64 - k) 0)) e (before-append p q (replicate (64 - length p) 0) e h)
@@ -156,11 +166,7 @@ module _ (m : ℕ) (opens : List ℕ) where
         let size : length q ≡ n = length-take-le n p (omega (arith, h .sized)) in
         let at : (i : ℕ) → i < n → getD q i 0 ≡ getD p i 0 = λ i l. getD-take n p i 0 l in
         let cell : (i : ℕ) → i < n → bit (getD opens i 0) (getD q i 0) ≡ 1 = λ i l. ap (bit (getD opens i 0)) (at i l) ∙ h .open-cell i l in
-        let back : padded q ≡ p = ext-getD 0 (padded q) p (padded-length q (omega arith) ∙ sym (h .sized)) (λ i l.
-        let fits : i < 64 = omega (arith, padded-length q (omega arith)) in
-        elim (decLt i n)
-        [ yes g ↦ padded-at q i (omega arith) ∙ at i g | no g ↦ padded-zero q i (omega arith) fits ∙ sym (h .zeros i (omega arith) fits) ]) in
-        subst (λ x. List·Memᴰ x (plans m opens)) back
+        subst (λ x. List·Memᴰ x (plans m opens)) (padded-take n p few (h .sized) (h .zeros))
         (Memᴰ·map padded
         (keep-into (cellsOpen opens) (arrangements n (below m))
         (arrangements-into n (below m) q

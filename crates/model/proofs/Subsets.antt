@@ -30,7 +30,7 @@ use Rattle.model.proofs.Permanent.{count-matchings}
 use Rattle.model.proofs.Supports.{ways-by-set}
 use Rattle.model.proofs.Ways.{keep-same, keep-keep, total-keep, ways, ways-snoc, length-flatMap}
 
--- ---- one slot less
+-- ---- one slot less, and all slots
 
 has-without : (w j i : ℕ) → has (without w j) i ≡ (has w i && not (eqb j i))
 unfolding has
@@ -40,9 +40,13 @@ has-without w j =
     (λ i d.
     ap (λ b. eqb b 1) (bit-without-other w j i d) ∙ sym (ap (λ b. has w i && not b) (ne-eqb j i (λ e. d (sym e))) ∙ and-true (has w i)))
 
-members-without : (m set j : ℕ) → remove j (members m set) ≡ members m (without set j)
+pub members-without : (m set j : ℕ) → remove j (members m set) ≡ members m (without set j)
 unfolding members remove
 members-without m set j = keep-keep (has set) (λ x. not (eqb j x)) (below m) ∙ sym (keep-same _ _ (below m) (has-without set j))
+
+pub members-low : (m : ℕ) → members m (low m) ≡ below m
+unfolding members
+members-low m = keep-all (has (low m)) (below m) (λ j l. has-true (low m) j (bit-low m j (below-from m l)))
 
 -- ---- the words
 
@@ -55,7 +59,7 @@ too-many opens slots k h = ap length (empty-list _ (λ p m.
 
 module _ (m : ℕ) (opens : List ℕ) where
   -- of sets no larger than the items are many
-  subset-ways : (set k : ℕ) → ones set ≡ k → k ≤ length opens → subsetCount m opens set ≡ ways (take k opens) (members m set)
+  pub subset-ways : (set k : ℕ) → ones set ≡ k → k ≤ length opens → subsetCount m opens set ≡ ways (take k opens) (members m set)
   unfolding subsetCount ways
   subset-ways set k e h =
       ap (λ i. length (matchings (take i opens) i (members m set))) e
@@ -95,14 +99,11 @@ module _ (m : ℕ) (opens : List ℕ) where
 
   -- the set of all slots, where there are as many items
   pub subset-last : length opens ≡ m → subsetCount m opens (low m) ≡ count m opens
-  unfolding ways members
+  unfolding ways
   subset-last e =
       subset-ways (low m) m (ones-low m) (omega arith)
-      ∙ ap₂ ways (ap (λ k. take k opens) (sym e) ∙ take-length opens) all
+      ∙ ap₂ ways (ap (λ k. take k opens) (sym e) ∙ take-length opens) (members-low m)
       ∙ sym (count-matchings m opens)
-    where
-      all : members m (low m) ≡ below m
-      all = keep-all (has (low m)) (below m) (λ j l. has-true (low m) j (bit-low m j (below-from m l)))
 
   -- what a set adds to the count: its word, if it has as many slots as there are items
   abbrev pub complete : ℕ → ℕ

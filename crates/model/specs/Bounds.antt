@@ -8,7 +8,10 @@ use Rattle.model.specs.declared.Edition.{Edition}
 use Rattle.model.specs.Rota.{tableCode}
 use Rattle.model.specs.Grade.{gradeOf, rate}
 use Rattle.model.specs.File.{blocksFor, fileCode}
-use Rattle.model.specs.Refusal.{fleetCode, roomCode}
+use Rattle.model.specs.Refusal.{numberCode, fleetCode, roomCode}
+use Rattle.model.specs.Plans.{blank}
+use Rattle.model.specs.PlanAnswers.{refused}
+use Rattle.model.specs.NumberAnswers.{planAtAnswer, numberRefused, planNumberAnswer}
 use Rattle.model.specs.CountAnswers.{sizedCode, untalliedCount, countCode}
 use Rattle.model.specs.PriceAnswers.{untalliedPriceCode}
 use Rattle.model.specs.Decimal.{decimal}
@@ -33,6 +36,11 @@ pub record Codes : Type 0 where
   pub untallied-five-first : untalliedPriceCode 21 21 (replicate 21 1) (replicate 21 0) 0 ≡ 5
   pub untallied-no-vehicle : untalliedPriceCode 20 20 (replicate 20 1) (replicate 20 0) 0 ≡ 7
   pub small-tally : countCode 20 20 (replicate 20 1) (replicate 20 0) (2 ^ 20 - 1) ≡ 6
+  pub plan-at-twenty-one : planAtAnswer 21 21 (replicate 21 1) (replicate 21 0) 0 0 ≡ refused 5
+  pub plan-number-twenty-one : planNumberAnswer 21 21 (replicate 21 1) (replicate 21 0) (record { slots = blank }) 0 ≡ numberRefused 5
+  pub last-number : numberCode 2 3 ≡ 0
+  pub no-such-number : numberCode 3 3 ≡ 16
+  pub no-number : numberCode 0 0 ≡ 16
   pub no-vehicle : fleetCode 0 ≡ 7
   pub one-vehicle : fleetCode 1 ≡ 0
   pub most-vehicles : fleetCode 10000 ≡ 0
@@ -46,7 +54,7 @@ pub record Codes : Type 0 where
   pub wrong-check : fileCode Edition.One (1 ∷ replicate 511 0) ≡ 13
 
 pub codes : Codes
-unfolding tableCode untalliedCount untalliedPriceCode countCode fileCode
+unfolding tableCode untalliedCount untalliedPriceCode countCode fileCode planAtAnswer planNumberAnswer
 codes = search refl
 
 -- the rules of the grade, the second argument saying whether some item is forced; the rates' columns; the blocks

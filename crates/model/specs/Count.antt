@@ -1,8 +1,8 @@
 -- The number of complete plans, the permanent of the table, and the subset counts (the tally of docs/RULES.md). Assumes nothing.
 use mathlib.Core.List.{List, [], _∷_, map}
-use Prim.Native.Nat.{ℕ, _*_, _^_}
+use Prim.Native.Nat.{ℕ, _-_, _*_, _^_}
 use lib.Count.{ones}
-use lib.ListN.{length, take}
+use lib.ListN.{length, take, drop}
 use Rattle.words.specs.Word.{bit}
 use Rattle.model.specs.Sets.{members}
 use Rattle.words.specs.Sum.{below, total}
@@ -25,12 +25,26 @@ unfoldable pub permanent : ℕ → List ℕ → ℕ
 unfolding total product arrangements below
 permanent m opens = total (product opens) (arrangements (length opens) (below m))
 
--- the number of ways to give the slots of a set, all of them, to the first items, as many as the set has bits
+-- the number of ways to give the slots of a set, all of them, to the items, one to each
+abbrev waysFor : ℕ → List ℕ → ℕ → ℕ
+waysFor m items set = length (matchings items (ones set) (members m set))
+
+-- to the first items, as many as the set has bits
 unfoldable pub subsetCount : ℕ → List ℕ → ℕ → ℕ
 unfolding matchings ones members
-subsetCount m opens set = length (matchings (take (ones set) opens) (ones set) (members m set))
+subsetCount m opens set = waysFor m (take (ones set) opens) set
+
+-- to the last items, as many as the set has bits
+unfoldable pub lastCount : ℕ → List ℕ → ℕ → ℕ
+unfolding matchings ones members
+lastCount m opens set = waysFor m (drop (length opens - ones set) opens) set
 
 -- the words that a count writes
 unfoldable pub subsetCounts : ℕ → List ℕ → List ℕ
 unfolding subsetCount below
 subsetCounts m opens = map (subsetCount m opens) (below (2 ^ m))
+
+-- the words that a plan by its number and a plan's number write
+unfoldable pub lastCounts : ℕ → List ℕ → List ℕ
+unfolding lastCount below
+lastCounts m opens = map (lastCount m opens) (below (2 ^ m))

@@ -9,6 +9,7 @@ pub mod Allowed
 pub mod Deficiency
 pub mod Count
 pub mod Ryser
+pub mod Ranks
 pub mod Grade
 pub mod File
 pub mod Refusal
@@ -16,6 +17,7 @@ pub mod PlanAnswers
 pub mod UsableAnswers
 pub mod CountAnswers
 pub mod PriceAnswers
+pub mod NumberAnswers
 pub mod FileAnswers
 pub mod SheetAnswers
 pub mod Lister

@@ -2,7 +2,7 @@
 use mathlib.Core.Bool.{Bool, cond, _||_}
 use mathlib.Core.List.{List, _++_}
 use Prim.Native.Nat.{ℕ, zero, suc, _^_}
-use lib.Dec.{eqb, ltb}
+use lib.Dec.{eqb, ltb, leb}
 use lib.ListN.{length, drop}
 
 -- the first refusal of two: the later test counts only where the earlier one passes
@@ -29,6 +29,10 @@ sizeCode m = cond (ltb 20 m) 5 0
 -- 6: a tally of so many words has fewer than 2 to the power m
 abbrev pub tallyCode : ℕ → ℕ → ℕ
 tallyCode m words = cond (ltb words (2 ^ m)) 6 0
+
+-- 16: of so many plans none has the number k
+abbrev pub numberCode : ℕ → ℕ → ℕ
+numberCode k plans = cond (leb plans k) 16 0
 
 -- 7
 abbrev pub fleetCode : ℕ → ℕ

@@ -16,6 +16,7 @@ use Rattle.model.specs.PlanAnswers.{firstAnswer, nextAnswer, fewestAnswe
 use Rattle.model.specs.CountAnswers.{countAnswer, untalliedCount}
 use Rattle.model.specs.SheetAnswers.{sheetCode, sheetAfter}
 use Rattle.model.specs.PriceAnswers.{gradeAnswer, untalliedGrade, priceAnswer, untalliedPrice}
+use Rattle.model.specs.NumberAnswers.{planAtAnswer, planAtTally, numberGiven, numberRefused, planNumberAnswer, planNumberTally}
 use Rattle.model.specs.ListingText.{listingText}
 
 abbrev T-opens : List ℕ
@@ -89,6 +90,31 @@ pub record UntalliedRows : Type 0 where
 pub untallied-rows : UntalliedRows
 unfolding untalliedCount untalliedGrade untalliedPrice
 untallied-rows = search refl
+
+-- plans by their numbers
+pub record NumberRows : Type 0 where
+  pub T-plan-0 : planAtAnswer 3 3 T-opens T-callouts 0 8 ≡ given (slots 0 1 2) 0
+  pub T-plan-1 : planAtAnswer 3 3 T-opens T-callouts 1 8 ≡ given (slots 0 2 1) 0
+  pub T-plan-2 : planAtAnswer 3 3 T-opens T-callouts 2 8 ≡ given (slots 1 0 2) 0
+  pub T-plan-3 : planAtAnswer 3 3 T-opens T-callouts 3 8 ≡ refused 16
+  pub T-number-0 : planNumberAnswer 3 3 T-opens T-callouts (record { slots = slots 0 1 2 }) 8 ≡ numberGiven 0
+  pub T-number-2 : planNumberAnswer 3 3 T-opens T-callouts (record { slots = slots 1 0 2 }) 8 ≡ numberGiven 2
+  pub T-no-plan : planNumberAnswer 3 3 T-opens T-callouts (record { slots = slots 2 0 1 }) 8 ≡ numberRefused 8
+  -- item 2 alone may have slots 1 and 2; items 1 and 2 share 0 and 1 in one way, 1 and 2 in two
+  pub T-tally : planAtTally 3 3 T-opens T-callouts 2 (none 9) ≡ 1 ∷ 0 ∷ 1 ∷ 1 ∷ 1 ∷ 1 ∷ 2 ∷ 3 ∷ 0 ∷ []
+  pub T-number-tally : planNumberTally 3 3 T-opens T-callouts (record { slots = slots 1 0 2 }) (none 8) ≡ 1 ∷ 0 ∷ 1 ∷ 1 ∷ 1 ∷ 1 ∷ 2 ∷ 3 ∷ []
+  pub T-kept : planAtTally 3 3 T-opens T-callouts 3 (none 8) ≡ none 8
+  pub T-number-kept : planNumberTally 3 3 T-opens T-callouts (record { slots = slots 2 0 1 }) (none 8) ≡ none 8
+  -- a tally of 7 words: 6 comes before 16 and 8
+  pub T-short : planAtAnswer 3 3 T-opens T-callouts 3 7 ≡ refused 6
+  pub T-number-short : planNumberAnswer 3 3 T-opens T-callouts (record { slots = slots 2 0 1 }) 7 ≡ numberRefused 6
+  -- no plan: no number
+  pub none-plan : planAtAnswer 1 1 (0 ∷ []) (none 1) 0 2 ≡ refused 16
+  pub one-plan : planAtAnswer 1 1 (1 ∷ []) (none 1) 0 2 ≡ given (0 ∷ replicate 63 0) 0
+
+pub number-rows : NumberRows
+unfolding planAtAnswer planAtTally planNumberAnswer planNumberTally
+number-rows = search refl
 
 -- T's file is one block, its check 338: byte 510 is 82 and byte 511 is 1; and back
 pub record File : Type 0 where

@@ -31,6 +31,12 @@ pub struct CountAnswer {
 }
 
 #[repr(C)]
+pub struct NumberAnswer {
+    pub code: u32,
+    pub number: u64,
+}
+
+#[repr(C)]
 pub struct GradeAnswer {
     pub code: u32,
     pub grade: u32,

@@ -4,6 +4,7 @@ mod Countable
 mod Priced
 mod Tallies
 mod NoTally
+mod NumberCalls
 mod Stepping
 mod FileTables
 mod OnFiles

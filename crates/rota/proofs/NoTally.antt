@@ -15,7 +15,7 @@ use Rattle.model.proofs.Refusals.{neither-refuses, fleet-passed}
 use Rattle.rota.proofs.Countable.{Countable, countable}
 
 module _ {n : ℕ} {opens callouts : List ℕ} {code : ℕ} (able : Countable n n opens callouts code) where
-  rows : length opens ≡ n
+  pub rows : length opens ≡ n
   rows = tables-from n n opens callouts (able .passed .code) .open-words
 
   pub few-rows : length opens ≤ 20

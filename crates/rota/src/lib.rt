@@ -5,6 +5,7 @@ pub mod counting;
 pub mod file_plans;
 pub mod files;
 pub mod lister;
+pub mod numbers;
 pub mod plans;
 pub mod pricing;
 pub mod sheets;

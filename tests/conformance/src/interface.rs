@@ -33,6 +33,13 @@ pub struct CountAnswer {
 
 #[repr(C)]
 #[derive(Clone, Copy, PartialEq, Eq, Debug)]
+pub struct NumberAnswer {
+    pub code: u32,
+    pub number: u64,
+}
+
+#[repr(C)]
+#[derive(Clone, Copy, PartialEq, Eq, Debug)]
 pub struct GradeAnswer {
     pub code: u32,
     pub grade: u32,
@@ -133,6 +140,14 @@ calls! {
     monthly_price_untallied rota_monthly_price_untallied(
         n: usize, opens: *const u64, opens_len: usize, callouts: *const u64, callouts_len: usize, vehicles: u64
     ) -> PriceAnswer;
+    plan_at rota_plan_at(
+        n: usize, opens: *const u64, opens_len: usize, callouts: *const u64, callouts_len: usize,
+        k: u64, tally: *mut u64, tally_len: usize
+    ) -> PlanAnswer;
+    plan_number rota_plan_number(
+        n: usize, opens: *const u64, opens_len: usize, callouts: *const u64, callouts_len: usize, given: PlanRecord,
+        tally: *mut u64, tally_len: usize
+    ) -> NumberAnswer;
     read_file rota_read_file(
         file: *const u8, file_len: usize, opens: *mut u64, opens_len: usize, callouts: *mut u64, callouts_len: usize
     ) -> ReadAnswer;

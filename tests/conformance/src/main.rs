@@ -5,6 +5,7 @@
 //! answers of the self-test, are spread over the machine's processors; a trace is of one round after the other.
 
 mod checks;
+mod checks_numbers;
 mod checks_untallied;
 mod inputs;
 mod interface;

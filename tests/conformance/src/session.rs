@@ -103,6 +103,12 @@ impl Answer for CountAnswer {
     }
 }
 
+impl Answer for NumberAnswer {
+    fn fields(&self) -> Vec<(&'static str, String)> {
+        vec![field("code", self.code), field("number", self.number)]
+    }
+}
+
 impl Answer for GradeAnswer {
     fn fields(&self) -> Vec<(&'static str, String)> {
         vec![

@@ -123,6 +123,17 @@ impl Calls {
         unsafe { (self.monthly_price_untallied)(n, opens, opens_len, callouts, callouts_len, vehicles) }
     }
 
+    pub fn at(&self, tables: &mut LentTables, k: u64, tally: &mut Lent<u64>) -> PlanAnswer {
+        let (n, opens, opens_len, callouts, callouts_len) = tables.arguments();
+        unsafe { (self.plan_at)(n, opens, opens_len, callouts, callouts_len, k, tally.pointer(), tally.len()) }
+    }
+
+    pub fn number_of(&self, tables: &mut LentTables, given: &Plan, tally: &mut Lent<u64>) -> NumberAnswer {
+        let (n, opens, opens_len, callouts, callouts_len) = tables.arguments();
+        let (given, words, len) = (PlanRecord { slots: *given }, tally.pointer(), tally.len());
+        unsafe { (self.plan_number)(n, opens, opens_len, callouts, callouts_len, given, words, len) }
+    }
+
     pub fn read(&self, file: &mut Lent<u8>, opens: &mut Lent<u64>, callouts: &mut Lent<u64>) -> ReadAnswer {
         let (open_words, callout_words) = ((opens.pointer(), opens.len()), (callouts.pointer(), callouts.len()));
         let (bytes, len) = (file.pointer(), file.len());

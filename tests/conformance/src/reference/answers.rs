@@ -1,7 +1,9 @@
 //! Which call tests what, in which order, and what it answers.
 
 use super::{pricing, rota_file, sheet, Known};
-use crate::interface::{CountAnswer, GradeAnswer, PlanAnswer, PlanRecord, PriceAnswer, ReadAnswer, WriteAnswer};
+use crate::interface::{
+    CountAnswer, GradeAnswer, NumberAnswer, PlanAnswer, PlanRecord, PriceAnswer, ReadAnswer, WriteAnswer,
+};
 use crate::rota::{plan_text, Cell, Plan, BLANK};
 use std::fmt;
 
@@ -23,6 +25,8 @@ pub enum Call {
     CountPlansUntallied,
     GradeUntallied,
     MonthlyPriceUntallied,
+    PlanAt,
+    PlanNumber,
     ReadFile,
     WriteFile,
     FileFirstPlan,
@@ -32,7 +36,7 @@ pub enum Call {
 
 use Call::*;
 
-pub const CALLS: [Call; 18] = [
+pub const CALLS: [Call; 20] = [
     FirstPlan,
     NextPlan,
     ListPlan,
@@ -46,6 +50,8 @@ pub const CALLS: [Call; 18] = [
     CountPlansUntallied,
     GradeUntallied,
     MonthlyPriceUntallied,
+    PlanAt,
+    PlanNumber,
     ReadFile,
     WriteFile,
     FileFirstPlan,
@@ -69,6 +75,8 @@ impl Call {
             CountPlansUntallied => "rota_count_plans_untallied",
             GradeUntallied => "rota_grade_untallied",
             MonthlyPriceUntallied => "rota_monthly_price_untallied",
+            PlanAt => "rota_plan_at",
+            PlanNumber => "rota_plan_number",
             ReadFile => "rota_read_file",
             WriteFile => "rota_write_file",
             FileFirstPlan => "rota_file_first_plan",
@@ -94,6 +102,8 @@ impl Call {
             CountPlansUntallied => &[1, 2, 3, 4, 5],
             GradeUntallied => &[1, 2, 3, 4, 5, 9],
             MonthlyPriceUntallied => &[1, 2, 3, 4, 5, 7, 9],
+            PlanAt => &[1, 2, 3, 4, 5, 6, 16],
+            PlanNumber => &[1, 2, 3, 4, 5, 6, 8],
             ReadFile => &[12, 13, 14, 3, 4, 15],
             FileFirstPlan => &[12, 13, 14, 3, 4, 15, 9],
             FileNextPlan => &[12, 13, 14, 3, 4, 15, 8, 10],
@@ -112,6 +122,8 @@ pub struct Input<'a> {
     pub cap: u32,
     pub cell: Cell,
     pub vehicles: u64,
+    /// The plan number.
+    pub k: u64,
     pub tally_words: usize,
     /// The lengths of the lent outputs other than the tally.
     pub room: [usize; 2],
@@ -120,7 +132,7 @@ pub struct Input<'a> {
 impl<'a> Input<'a> {
     pub fn new(call: Call, known: &'a Known) -> Self {
         let (given, cell, room) = (BLANK, (0, 0), [0, 0]);
-        Input { call, known, file: &[], given, started: false, cap: 0, cell, vehicles: 0, tally_words: 0, room }
+        Input { call, known, file: &[], given, started: false, cap: 0, cell, vehicles: 0, k: 0, tally_words: 0, room }
     }
 
     /// The refusal by the order of document 01, 0 if there is none.
@@ -152,6 +164,7 @@ impl<'a> Input<'a> {
             13 => rota_file::some_check_wrong(self.file),
             14 => rota_file::layout_wrong(self.file),
             15 => self.room[0] < self.needed() || self.call == ReadFile && self.room[1] < self.needed(),
+            16 => self.k >= self.known.count(),
             _ => unreachable!("no row {number}"),
         }
     }
@@ -173,6 +186,7 @@ impl<'a> Input<'a> {
             ListPlan if self.started => self.known.next(&self.given),
             FewestCallouts | FileFewestCallouts => self.known.fewest().map(|(_, plan)| plan),
             CellPlan => self.known.cell_plan(self.cell).or(Some(BLANK)),
+            PlanAt => self.known.plan_at(self.k),
             _ => self.known.first(),
         };
         plan.expect("a call that is not refused gives a plan")
@@ -206,6 +220,10 @@ impl<'a> Input<'a> {
 
     pub fn count_answer(&self, code: u32) -> CountAnswer {
         CountAnswer { code, count: if code == 0 { self.known.count() } else { 0 } }
+    }
+
+    pub fn number_answer(&self, code: u32) -> NumberAnswer {
+        NumberAnswer { code, number: if code == 0 { self.known.number(&self.given) } else { 0 } }
     }
 
     pub fn grade_answer(&self, code: u32) -> GradeAnswer {
@@ -246,14 +264,17 @@ impl fmt::Display for Input<'_> {
         }
         match self.call {
             FewestCallouts | FileFewestCallouts => writeln!(f, "  cap {}", self.cap)?,
-            NextPlan | FileNextPlan | PlanSheet => writeln!(f, "  given {}", plan_text(&self.given))?,
+            NextPlan | FileNextPlan | PlanSheet | PlanNumber => writeln!(f, "  given {}", plan_text(&self.given))?,
             ListPlan => writeln!(f, "  lister started {}, plan {}", self.started, plan_text(&self.given))?,
             MonthlyPrice | MonthlyPriceUntallied => writeln!(f, "  vehicles {}", self.vehicles)?,
             CellPlan => writeln!(f, "  item {}, slot {}", self.cell.0, self.cell.1)?,
+            PlanAt => writeln!(f, "  k {}", self.k)?,
             _ => {}
         }
         match self.call {
-            CountPlans | Grade | MonthlyPrice => write!(f, "  tally of {} words", self.tally_words),
+            CountPlans | Grade | MonthlyPrice | PlanAt | PlanNumber => {
+                write!(f, "  tally of {} words", self.tally_words)
+            }
             ReadFile => write!(f, "  tables of {} and {} words", self.room[0], self.room[1]),
             FirstPlan | NextPlan | ListPlan | FewestCallouts | CellPlan => write!(f, "  no output lent"),
             CountPlansUntallied | GradeUntallied | MonthlyPriceUntallied => write!(f, "  no output lent"),

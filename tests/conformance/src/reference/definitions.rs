@@ -1,6 +1,6 @@
 //! Document 01's definitions by brute force, for rotas of at most seven items: all permutations, filtered.
 
-use crate::rota::{has, plan_of, Cell, Plan, Tables};
+use crate::rota::{has, plan_of, slots_of, Cell, Plan, Tables};
 use std::sync::OnceLock;
 
 pub const GREATEST_N: usize = 7;
@@ -96,4 +96,15 @@ fn give(rota: &Tables, items: usize, given: u64, words: &mut [u64]) {
             }
         }
     }
+}
+
+/// Word S holds the number of ways to give the slots of S, all of them, to the last items: every order of these slots is tried.
+pub fn last_tally(rota: &Tables) -> Vec<u64> {
+    let ways = |set: u64| {
+        let slots = slots_of(set);
+        let items = rota.n - slots.len()..rota.n;
+        let given = |order: &&Vec<usize>| items.clone().zip(*order).all(|(item, &at)| rota.is_open(item, slots[at]));
+        permutations(slots.len()).iter().filter(given).count() as u64
+    };
+    (0..1 << rota.n).map(ways).collect()
 }

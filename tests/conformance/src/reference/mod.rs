@@ -5,6 +5,7 @@ pub mod assignment;
 pub mod definitions;
 pub mod layers;
 pub mod matching;
+pub mod numbers;
 pub mod permanent;
 pub mod pricing;
 pub mod rota_file;
@@ -33,6 +34,7 @@ pub struct Known {
     shortage: OnceCell<(u64, u32)>,
     fewest: OnceCell<Option<(u32, Plan)>>,
     tally: OnceCell<Vec<u64>>,
+    last_tally: OnceCell<Vec<u64>>,
     count: OnceCell<u64>,
 }
 
@@ -54,6 +56,7 @@ impl Known {
             shortage: OnceCell::new(),
             fewest: OnceCell::new(),
             tally: OnceCell::new(),
+            last_tally: OnceCell::new(),
             count: OnceCell::new(),
         }
     }
@@ -134,6 +137,30 @@ impl Known {
             true => definitions::tally(&self.tables),
             false => layers::tally(&self.tables),
         })
+    }
+
+    /// The tally with the last items in place of the first, for at most 20 items.
+    pub fn last_tally(&self) -> &[u64] {
+        self.last_tally.get_or_init(|| match self.defined() {
+            true => definitions::last_tally(&self.tables),
+            false => numbers::tally(&self.tables),
+        })
+    }
+
+    /// The complete plan with so many before it, for at most 20 items.
+    pub fn plan_at(&self, number: u64) -> Option<Plan> {
+        match self.defined() {
+            true => usize::try_from(number).ok().and_then(|place| self.plans().get(place)).copied(),
+            false => numbers::plan(&self.tables, self.last_tally(), number),
+        }
+    }
+
+    /// How many complete plans come before this one, for at most 20 items.
+    pub fn number(&self, plan: &Plan) -> u64 {
+        match self.defined() {
+            true => self.plans().iter().filter(|other| *other < plan).count() as u64,
+            false => numbers::number(&self.tables, plan),
+        }
     }
 
     /// For at most 20 items.

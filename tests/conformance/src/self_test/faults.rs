@@ -1,7 +1,7 @@
 //! Faults of the stand-in: a changed reply, an exchanged order of tests, a buffer written where it should be kept.
 
 use super::mock::Reply;
-use super::{systematic, wrong, wrong_cells, wrong_files, wrong_grades, wrong_sheets, wrong_untallied};
+use super::{systematic, wrong, wrong_cells, wrong_files, wrong_grades, wrong_numbers, wrong_sheets, wrong_untallied};
 use crate::reference::answers::{Call, Input};
 use std::sync::Arc;
 
@@ -116,6 +116,21 @@ pub fn success(call: Call, name: &str, change: impl Fn(&Input, &mut Reply) + Sen
     })
 }
 
+/// Another number in place of one, where the test passes.
+pub fn instead(
+    call: Call,
+    name: &str,
+    of: u32,
+    other: u32,
+    test: impl Fn(&Input) -> bool + Send + Sync + 'static,
+) -> Fault {
+    Fault::of(call, name, move |input, reply| {
+        if reply.code == of && test(input) {
+            *reply = Reply::right(input, other);
+        }
+    })
+}
+
 pub fn all() -> Vec<Fault> {
     let mut faults = systematic::faults();
     faults.extend(wrong::faults());
@@ -123,6 +138,7 @@ pub fn all() -> Vec<Fault> {
     faults.extend(wrong_sheets::faults());
     faults.extend(wrong_grades::faults());
     faults.extend(wrong_untallied::faults());
+    faults.extend(wrong_numbers::faults());
     faults.extend(wrong_files::faults());
     faults
 }

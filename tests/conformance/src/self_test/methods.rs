@@ -81,7 +81,7 @@ fn sheet_by_columns(rota: &Tables, plan: &Plan) -> Vec<u8> {
 }
 
 /// The number of complete plans before this one, by Ryser's formula.
-fn rank(rota: &Tables, plan: &Plan) -> u64 {
+pub fn rank(rota: &Tables, plan: &Plan) -> u64 {
     let mut left = low(rota.n);
     let mut before = 0;
     for (item, &given) in plan[..rota.n].iter().enumerate() {

@@ -18,7 +18,7 @@ pub struct Reply {
     pub items: u64,
     pub callouts: u32,
     pub plan: Plan,
-    /// The count, the grade, the cents, n or the bytes written.
+    /// The count, the grade, the cents, the plan number, n or the bytes written.
     pub number: u64,
     pub words: Vec<u64>,
     pub more_words: Vec<u64>,
@@ -47,7 +47,12 @@ impl Reply {
         (reply.items, reply.shortage) = input.short(code);
         let tables = &input.known.tables;
         match input.call {
-            Call::FirstPlan | Call::NextPlan | Call::ListPlan | Call::FewestCallouts | Call::CellPlan => {
+            Call::FirstPlan
+            | Call::NextPlan
+            | Call::ListPlan
+            | Call::FewestCallouts
+            | Call::CellPlan
+            | Call::PlanAt => {
                 let answer = input.plan_answer(code);
                 (reply.callouts, reply.plan) = (answer.callouts, answer.plan.slots);
                 if code == 0 {
@@ -57,6 +62,7 @@ impl Reply {
             Call::CountPlans | Call::CountPlansUntallied => reply.number = input.count_answer(code).count,
             Call::Grade | Call::GradeUntallied => reply.number = input.grade_answer(code).grade.into(),
             Call::MonthlyPrice | Call::MonthlyPriceUntallied => reply.number = input.price_answer(code).cents,
+            Call::PlanNumber => reply.number = input.number_answer(code).number,
             Call::ReadFile => reply.number = input.read_answer(code).n,
             Call::WriteFile => reply.number = input.write_answer(code).bytes,
             _ => {}
@@ -65,6 +71,7 @@ impl Reply {
             match input.call {
                 Call::UsableSlots => reply.words = input.known.usable().to_vec(),
                 Call::CountPlans | Call::Grade | Call::MonthlyPrice => reply.words = input.known.tally().to_vec(),
+                Call::PlanAt | Call::PlanNumber => reply.words = input.known.last_tally().to_vec(),
                 Call::ReadFile => (reply.words, reply.more_words) = (tables.opens.clone(), tables.callouts.clone()),
                 Call::WriteFile => reply.bytes = rota_file::bytes_of(tables),
                 Call::PlanSheet => reply.bytes = input.sheet(code),

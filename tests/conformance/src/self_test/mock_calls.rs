@@ -22,6 +22,8 @@ pub fn calls() -> Calls {
         count_plans_untallied,
         grade_untallied,
         monthly_price_untallied,
+        plan_at,
+        plan_number,
         read_file,
         write_file,
         file_first_plan,
@@ -63,9 +65,12 @@ impl Lending {
         reply(&input, &tables.into_iter().chain(output).collect::<Vec<_>>())
     }
 
-    unsafe fn reply_with_tally(self, call: Call, tally: *mut u64, len: usize, vehicles: u64) -> Reply {
+    unsafe fn reply_with_tally(self, call: Call, tally: *mut u64, len: usize, fill: impl Fn(&mut Input)) -> Reply {
         let output = Buffer::tally(tally, len, self.0);
-        let reply = self.reply(call, Some(output), |input| (input.tally_words, input.vehicles) = (len, vehicles));
+        let reply = self.reply(call, Some(output), |input| {
+            input.tally_words = len;
+            fill(input);
+        });
         store(tally, &reply.words);
         reply
     }
@@ -189,7 +194,7 @@ unsafe extern "C" fn count_plans(
     tally: *mut u64,
     len: usize,
 ) -> CountAnswer {
-    count_answer(&Lending(n, o, o_len, c, c_len).reply_with_tally(Call::CountPlans, tally, len, 0))
+    count_answer(&Lending(n, o, o_len, c, c_len).reply_with_tally(Call::CountPlans, tally, len, |_| {}))
 }
 
 unsafe extern "C" fn grade(
@@ -201,7 +206,7 @@ unsafe extern "C" fn grade(
     tally: *mut u64,
     len: usize,
 ) -> GradeAnswer {
-    grade_answer(&Lending(n, o, o_len, c, c_len).reply_with_tally(Call::Grade, tally, len, 0))
+    grade_answer(&Lending(n, o, o_len, c, c_len).reply_with_tally(Call::Grade, tally, len, |_| {}))
 }
 
 unsafe extern "C" fn monthly_price(
@@ -214,7 +219,8 @@ unsafe extern "C" fn monthly_price(
     tally: *mut u64,
     len: usize,
 ) -> PriceAnswer {
-    price_answer(&Lending(n, o, o_len, c, c_len).reply_with_tally(Call::MonthlyPrice, tally, len, vehicles))
+    let lending = Lending(n, o, o_len, c, c_len);
+    price_answer(&lending.reply_with_tally(Call::MonthlyPrice, tally, len, |input| input.vehicles = vehicles))
 }
 
 unsafe extern "C" fn count_plans_untallied(
@@ -247,6 +253,34 @@ unsafe extern "C" fn monthly_price_untallied(
 ) -> PriceAnswer {
     let lending = Lending(n, o, o_len, c, c_len);
     price_answer(&lending.reply(Call::MonthlyPriceUntallied, None, |input| input.vehicles = vehicles))
+}
+
+unsafe extern "C" fn plan_at(
+    n: usize,
+    o: *const u64,
+    o_len: usize,
+    c: *const u64,
+    c_len: usize,
+    k: u64,
+    tally: *mut u64,
+    len: usize,
+) -> PlanAnswer {
+    plan_answer(&Lending(n, o, o_len, c, c_len).reply_with_tally(Call::PlanAt, tally, len, |input| input.k = k))
+}
+
+unsafe extern "C" fn plan_number(
+    n: usize,
+    o: *const u64,
+    o_len: usize,
+    c: *const u64,
+    c_len: usize,
+    given: PlanRecord,
+    tally: *mut u64,
+    len: usize,
+) -> NumberAnswer {
+    let lending = Lending(n, o, o_len, c, c_len);
+    let reply = lending.reply_with_tally(Call::PlanNumber, tally, len, |input| input.given = given.slots);
+    NumberAnswer { code: reply.code, number: reply.number }
 }
 
 unsafe extern "C" fn write_file(

@@ -5,11 +5,13 @@ mod faults;
 mod methods;
 mod mock;
 pub mod mock_calls;
+mod numbers;
 mod systematic;
 mod wrong;
 mod wrong_cells;
 mod wrong_files;
 mod wrong_grades;
+mod wrong_numbers;
 mod wrong_sheets;
 mod wrong_untallied;
 
@@ -21,11 +23,22 @@ use std::process::ExitCode;
 
 const SEED: u64 = 1;
 
-/// The subjects that find wrong sheets, grades, prices and counts without a tally; without a fault they find nothing.
-const FAULTLESS: [&str; 7] = ["refusals", "sheets", "apart", "prices", "brittle", "untallied", "untallied at bounds"];
+/// The subjects that find wrong sheets, grades, prices, counts without a tally and plan numbers; without a fault they find nothing.
+const FAULTLESS: [&str; 10] = [
+    "refusals",
+    "sheets",
+    "apart",
+    "prices",
+    "brittle",
+    "untallied",
+    "untallied at bounds",
+    "numbers",
+    "numbers at bounds",
+    "numbers beside the lister",
+];
 
 pub fn run() -> ExitCode {
-    let compared = methods::run() + brittle::run();
+    let compared = methods::run() + brittle::run() + numbers::run();
     println!("self-test: {compared} comparisons between methods agree");
     let faultless = |turn: u64| {
         let subject = FAULTLESS[turn as usize];

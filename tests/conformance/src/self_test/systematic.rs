@@ -49,14 +49,14 @@ fn fields(call: Call) -> Vec<Field> {
     let items: Field = ("items", |reply| reply.items ^= 1 << 63);
     let number: Field = ("number", |reply| reply.number += 1);
     match call {
-        FirstPlan | NextPlan | ListPlan | FewestCallouts | CellPlan => vec![
+        FirstPlan | NextPlan | ListPlan | FewestCallouts | CellPlan | PlanAt => vec![
             shortage,
             items,
             ("callouts", |reply| reply.callouts += 1),
             ("first slot", |reply| reply.plan[0] ^= 1),
             ("last byte of the plan", |reply| reply.plan[63] ^= 128),
         ],
-        CountPlans | CountPlansUntallied | ReadFile | WriteFile => vec![number],
+        CountPlans | CountPlansUntallied | PlanNumber | ReadFile | WriteFile => vec![number],
         Grade | MonthlyPrice | GradeUntallied | MonthlyPriceUntallied => vec![number, shortage, items],
         UsableSlots | PlanSheet | FileFirstPlan | FileNextPlan | FileFewestCallouts => vec![],
     }
@@ -78,6 +78,7 @@ fn buffers(call: Call) -> (usize, &'static [usize]) {
         FirstPlan | NextPlan | FewestCallouts | CellPlan => (2, &[]),
         CountPlansUntallied | GradeUntallied | MonthlyPriceUntallied => (2, &[]),
         ListPlan | UsableSlots | PlanSheet | CountPlans | Grade | MonthlyPrice | WriteFile => (3, &[2]),
+        PlanAt | PlanNumber => (3, &[2]),
         ReadFile => (3, &[1, 2]),
         FileFirstPlan | FileNextPlan | FileFewestCallouts => (2, &[1]),
     }
@@ -119,8 +120,11 @@ fn exchanged_tests(call: Call, list: &mut Vec<Fault>) {
     for pair in pairs.into_iter().filter(|pair| ![10, 11].contains(&pair[1])) {
         let (one, other) = (pair[0], pair[1]);
         let name = format!("{}: {other} tested before {one}", call.name());
-        let untallied = [CountPlansUntallied, GradeUntallied, MonthlyPriceUntallied].contains(&call);
-        let subject = untallied.then_some("untallied at bounds");
+        let subject = match call {
+            CountPlansUntallied | GradeUntallied | MonthlyPriceUntallied => Some("untallied at bounds"),
+            PlanAt | PlanNumber => Some("numbers at bounds"),
+            _ => None,
+        };
         list.push(Fault { name, subject, exchanged: Some((call, one, other)), ..Fault::none() });
     }
 }

@@ -1,8 +1,7 @@
 //! Wrong libraries that come near: the count without a tally. A wrong count is tried as the count, as the grade that it gives, and as
 //! the price at that grade.
 
-use super::faults::{success, Fault};
-use super::mock::Reply;
+use super::faults::{instead, success, Fault};
 use crate::reference::answers::{Call, Input};
 use crate::reference::pricing;
 use crate::rota::low;
@@ -182,21 +181,6 @@ fn fewer_bits() -> Vec<Fault> {
     };
     let [stopped, ..] = signed("products up to 2^64 - 1", stopped, minus);
     list.chain([products, stopped].map(|fault| fault.found_by(SIZES))).collect()
-}
-
-/// Another number in place of one, where the test passes.
-fn instead(
-    call: Call,
-    name: &str,
-    of: u32,
-    other: u32,
-    test: impl Fn(&Input) -> bool + Send + Sync + 'static,
-) -> Fault {
-    Fault::of(call, name, move |input, reply| {
-        if reply.code == of && test(input) {
-            *reply = Reply::right(input, other);
-        }
-    })
 }
 
 fn refusals() -> Vec<Fault> {

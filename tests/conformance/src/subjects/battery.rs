@@ -56,7 +56,7 @@ pub fn calls_on_tables(
     for bytes in lengths(BLOCK * blocks_for(known.n()), random) {
         session.write_file(known, bytes)?;
     }
-    calls_on_tally(session, known, random)
+    calls_on_tally(session, known, plans, random)
 }
 
 /// One too short, none at all, exact, one too long, longer.
@@ -70,7 +70,7 @@ pub fn pages(n: usize) -> [usize; 6] {
     [exact, exact + 1, exact - 1, n * LINE, 0, exact + 10 * LINE + 5]
 }
 
-fn calls_on_tally(session: &mut Session, known: &Known, random: &mut Random) -> Outcome {
+fn calls_on_tally(session: &mut Session, known: &Known, plans: &[[u8; 64]], random: &mut Random) -> Outcome {
     // A tally that would be large is lent too short here.
     let tallies = match known.n() {
         n if n <= SMALL_TALLY => lengths(1 << n, random),
@@ -87,7 +87,8 @@ fn calls_on_tally(session: &mut Session, known: &Known, random: &mut Random) -> 
             fleets.push(vehicles);
         }
     }
-    calls_without_tally(session, known, &fleets)
+    calls_without_tally(session, known, &fleets)?;
+    plan_numbers(session, known, plans, tallies, &mut random.clone())
 }
 
 /// The calls without a tally, with the same fleets. Accepted rotas above a small tally are left to subjects of their own here too.
@@ -99,6 +100,28 @@ fn calls_without_tally(session: &mut Session, known: &Known, fleets: &[u64]) -> 
     session.count_untallied(known)?;
     session.grade_untallied(known)?;
     fleets.iter().try_for_each(|&vehicles| session.price_untallied(known, vehicles))
+}
+
+/// Numbers and plans with tallies of the same lengths: all of them with the exact one, which is the third, some with the others.
+fn plan_numbers(
+    session: &mut Session,
+    known: &Known,
+    plans: &[[u8; 64]],
+    tallies: [usize; 5],
+    random: &mut Random,
+) -> Outcome {
+    let counted = known.n() <= SMALL_TALLY && Input::new(Call::CountPlansUntallied, known).refusal() == 0;
+    let count = if counted { known.count() } else { 0 };
+    let numbers = [0, count.wrapping_sub(1), count, random.word() % (count + 1), u64::MAX];
+    numbers.iter().try_for_each(|&k| session.plan_at(known, k, tallies[2]))?;
+    plans.iter().try_for_each(|plan| session.plan_number(known, plan, tallies[2]))?;
+    for turn in [0, 1, 3, 4] {
+        session.plan_at(known, 0, tallies[turn])?;
+        session.plan_at(known, numbers[turn], tallies[turn])?;
+        session.plan_number(known, &plans[0], tallies[turn])?;
+        session.plan_number(known, &plans[plans.len() - 1], tallies[turn])?;
+    }
+    Ok(())
 }
 
 /// A fleet size at a bound, or any that is accepted.

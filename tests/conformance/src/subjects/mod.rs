@@ -8,6 +8,7 @@ mod counts;
 mod damage;
 mod files;
 mod listings;
+mod numbers;
 mod prices;
 mod refusals;
 mod sheets;
@@ -21,7 +22,7 @@ use crate::session::{Outcome, Session};
 
 type Subject = fn(&mut Session, &mut Random) -> Outcome;
 
-const SUBJECTS: [(&str, Subject); 15] = [
+const SUBJECTS: [(&str, Subject); 18] = [
     ("worked", worked::run),
     ("refusals", refusals::run),
     ("small", small::run),
@@ -37,6 +38,9 @@ const SUBJECTS: [(&str, Subject); 15] = [
     ("counts", counts::run),
     ("untallied", untallied::run),
     ("untallied at bounds", untallied::bounds),
+    ("numbers", numbers::run),
+    ("numbers at bounds", numbers::bounds),
+    ("numbers beside the lister", numbers::beside),
 ];
 
 /// All subjects once.

@@ -80,5 +80,7 @@ fn few_calls(session: &mut Session, known: &Known, random: &mut Random) -> Outco
     session.monthly_price(known, vehicles, 1 << known.n())?;
     session.count_untallied(known)?;
     session.grade_untallied(known)?;
-    session.price_untallied(known, vehicles)
+    session.price_untallied(known, vehicles)?;
+    session.plan_at(known, random.clone().below(7) as u64, 1 << known.n())?;
+    session.plan_number(known, &plan, 1 << known.n())
 }

@@ -100,25 +100,25 @@ fn plans_refused() -> Vec<Fault> {
 }
 
 /// The given record with 0 in these places.
-fn without(input: &Input, from: usize, to: usize) -> Plan {
+pub fn without(input: &Input, from: usize, to: usize) -> Plan {
     let mut plan = input.given;
     plan[from.min(64)..to.min(64)].fill(0);
     plan
 }
 
-fn inside(input: &Input) -> bool {
+pub fn inside(input: &Input) -> bool {
     let n = input.known.n();
     input.given[..n].iter().all(|&slot| usize::from(slot) < n) && input.given[n..].iter().all(|&byte| byte == 0)
 }
 
 /// Whether no slot is given twice.
-fn all_slots(input: &Input) -> bool {
+pub fn all_slots(input: &Input) -> bool {
     let mut slots = input.given[..input.known.n()].to_vec();
     slots.sort();
     slots.dedup();
     slots.len() == input.known.n() && inside(input)
 }
 
-fn open_cells(input: &Input, mut items: std::ops::Range<usize>) -> bool {
+pub fn open_cells(input: &Input, mut items: std::ops::Range<usize>) -> bool {
     items.all(|item| input.known.tables.is_open(item, input.given[item].into())) && inside(input)
 }

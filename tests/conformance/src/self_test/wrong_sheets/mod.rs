@@ -10,6 +10,7 @@ use super::mock::Reply;
 use crate::reference::answers::{Call, Input};
 use crate::reference::sheet::LINE;
 use crate::rota::Plan;
+pub use given::{all_slots, inside, open_cells, without};
 use Call::PlanSheet;
 
 /// The bytes of a sheet of 64 items.

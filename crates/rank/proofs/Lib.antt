@@ -1,0 +1,5 @@
+mod LastFirst
+pub mod LastWritten
+mod PlanWalk
+mod Unranking
+mod Ranking
