@@ -79,7 +79,8 @@ def result(times, peers, stack):
         f"open slots; {span(numbers(untallied, 4) + numbers(untallied, 8) + numbers(untallied, 11))} times as long as in Rust, grade and price too.",
         f"- A plan of 20 items by its number takes {plan_at} ms, {span(numbers(numbered, 5))} times as long as the counts with and without a tally together; a "
         f"plan's number {plan_number} ms, {span(numbers(numbered, 9))} times as long; both {span(numbers(numbered, 4) + numbers(numbered, 8))} times as long as in "
-        f"Rust. The walk through a filled tally takes {span(numbers(walks, 1))} µs to a plan, {span(numbers(walks, 2))} µs to a number.",
+        f"Rust. The walk through a filled tally takes {span(numbers(walks, 1))} µs to a plan, {span(numbers(walks, 2))} µs to a number; the first one after a fill "
+        f"{span(numbers(walks, 3))} µs to the middle plan, {span(numbers(walks, 4))} µs to the last.",
         f"- At 64 items {calls(plans64)}.",
         f"- The first plan that holds an open cell takes {span(numbers(cells, 3))} µs at 64 items, {span(numbers(cells, 6))} times as long "
         f"as the first plan of the same family; a cell that is not open {span(numbers(others, 1))} µs.",

@@ -7,7 +7,7 @@ use crate::records::Plan;
 use crate::report::{digits, table, Report};
 use crate::same::rank;
 use crate::side::{agree, LIBRARY};
-use crate::timing::{time, times, Times};
+use crate::timing::{once, time, times, Times};
 use crate::untallied::{both_counts, GROWING};
 use std::hint::black_box;
 
@@ -16,6 +16,9 @@ const BESIDE: &str = "/ both counts";
 
 /// So many plans of a rota are walked to.
 const WALKS: usize = 1000;
+
+/// So often a tally is filled anew for a walk.
+const FILLS: usize = 41;
 
 /// A plan and its number.
 type Numbered = (u64, Plan);
@@ -106,8 +109,10 @@ pub fn numbers(report: &mut Report, n: usize) {
 }
 
 /// The walk to a plan and the walk to a number, in Rust, through a tally that the library has filled: many plans of a rota, at random.
+/// Then the walk to one plan, each time right after the tally was filled, so that few of the words that it reads are in the cache.
 pub fn walks(report: &mut Report, n: usize) {
-    table(&format!("The walk through a filled tally, in Rust, n = {n}"), "family", &["to a plan", "to a number"]);
+    let columns = ["to a plan", "to a number", "after a fill: to the middle plan", "to the last"];
+    table(&format!("The walk through a filled tally, in Rust, n = {n}"), "family", &columns);
     for (name, Rota { opens, callouts }, _) in planned(n, |_| true) {
         let mut tally = vec![0; 1 << n];
         let filled = (LIBRARY.plan_at)(n, &opens, &callouts, 0, &mut tally);
@@ -134,7 +139,17 @@ pub fn walks(report: &mut Report, n: usize) {
         print!("| {name} |");
         report.walk("walk to a plan", n, name, there);
         report.walk("walk to a number", n, name, back);
-        println!();
+        let mut after_a_fill = |k: u64| {
+            let mut walks = [(); FILLS].map(|()| {
+                (LIBRARY.plan_at)(n, &opens, &callouts, 0, &mut tally);
+                once(|| {
+                    black_box(rank::unrank(black_box(&opens), &tally, k));
+                })
+            });
+            walks.sort_by(f64::total_cmp);
+            walks[FILLS / 2]
+        };
+        println!(" {} | {} |", digits(after_a_fill(count / 2)), digits(after_a_fill(count - 1)));
     }
 }
 

@@ -91,6 +91,13 @@ pub fn time(rounds: u32, calls: usize, mut pass: impl FnMut()) -> f64 {
     times.library.min(times.rust)
 }
 
+/// The time of one pass by the wall clock.
+pub fn once(pass: impl FnOnce()) -> f64 {
+    let wall = Instant::now();
+    pass();
+    wall.elapsed().as_secs_f64() * 1e6
+}
+
 /// The mean of times.
 pub fn mean(all: impl Iterator<Item = Times>) -> Times {
     let all: Vec<Times> = all.collect();
