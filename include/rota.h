@@ -86,7 +86,7 @@ static inline const char *rota_code_text(uint32_t code)
         "a table does not have one word for each item",
         "an item is open for a slot that the rota does not have",
         "a callout stands where the slot is not open to the item",
-        "only rotas of up to 20 items are counted, graded and priced, and have plan numbers",
+        "only rotas of up to 20 items are counted, graded and priced",
         "the tally is too short to count the plans",
         "the fleet does not have 1 to 10,000 vehicles",
         "the given plan is no complete plan of this rota",

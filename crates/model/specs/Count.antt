@@ -1,4 +1,4 @@
--- The number of complete plans, the permanent of the table, and the subset counts (the tally of docs/RULES.md). Assumes nothing.
+-- The number of complete plans, the permanent of the table, and the subset counts of the first and of the last items (docs/RULES.md: tally). Assumes nothing.
 use mathlib.Core.List.{List, [], _∷_, map}
 use Prim.Native.Nat.{ℕ, _-_, _*_, _^_}
 use lib.Count.{ones}

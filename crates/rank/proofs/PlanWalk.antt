@@ -185,11 +185,11 @@ walk-end {opens} {i} {set} {left} {number} {p} w h =
           ∙ append-nil (take (length opens) p),
     )
 
--- a turn takes a slot from `left`, or goes on to the next item
-abbrev pub toDo : List ℕ → ℕ → ℕ → ℕ
-toDo opens i left = (length opens - i) * 2 ^ 20 + left
+-- how far the walk is from its end: a turn takes a slot from `left`, or goes on to the next item
+abbrev pub remaining : List ℕ → ℕ → ℕ → ℕ
+remaining opens i left = (length opens - i) * 2 ^ 20 + left
 
-pub one-less : {opens : List ℕ} {i set left′ number : ℕ} {p : List ℕ} (left : ℕ) → Walking opens (suc i) set left′ number p → toDo opens (suc i) left′ < toDo opens i left
+pub one-less : {opens : List ℕ} {i set left′ number : ℕ} {p : List ℕ} (left : ℕ) → Walking opens (suc i) set left′ number p → remaining opens (suc i) left′ < remaining opens i left
 one-less {opens} {i} {left′ = left′} left w =
     let items = w .items in
     let most : 2 ^ length opens ≤ 2 ^ 20 = pow-mono (w .few) in

@@ -17,7 +17,7 @@ use Rattle.model.proofs.Permanent.{count-matchings}
 use Rattle.model.proofs.Subsets.{count-le}
 use Rattle.model.proofs.Ranks.{rank-unrank, unrank-way}
 use Rattle.rank.specs.LastTally.{LastTally, Square}
-use Rattle.rank.proofs.PlanWalk.{Walking, toDo, walk-start, slot-lt, in-tally, fewer, below-all, passed, taken, one-less, walk-end}
+use Rattle.rank.proofs.PlanWalk.{Walking, remaining, walk-start, slot-lt, in-tally, fewer, below-all, passed, taken, one-less, walk-end}
 
 pub record Ranking (opens : List ℕ) (i slots left number : ℕ) (p : List ℕ) : Type 0 where
   pub walk : Walking opens i slots left number p
@@ -31,10 +31,10 @@ pub record RankTurn (opens tally : List ℕ) (i slots left number : ℕ) (p : Li
   pub fits : number + getD tally others 0 ≤ 2432902008176640000
   -- the plan has another slot there
   pub passed-over : slot ≢ getD p i 0
-      → Ranking opens i slots (without left (lowest left)) (number + getD tally others 0) p × (toDo opens i (without left (lowest left)) < toDo opens i left)
+      → Ranking opens i slots (without left (lowest left)) (number + getD tally others 0) p × (remaining opens i (without left (lowest left)) < remaining opens i left)
   -- it has this one
   pub given : slot ≡ getD p i 0 → {left′ : ℕ} → left′ ≡ bitAnd (getD opens (i + 1) 0) others
-      → Ranking opens (i + 1) others left′ number p × (toDo opens (i + 1) left′ < toDo opens i left)
+      → Ranking opens (i + 1) others left′ number p × (remaining opens (i + 1) left′ < remaining opens i left)
 
 -- an open slot of the set
 both-bits : (a b j : ℕ) → bit a j ≡ 1 → bit b j ≡ 1 → bit (bitAnd a b) j ≡ 1

@@ -16,7 +16,7 @@ use Rattle.model.proofs.Plans.{padded-take}
 use Rattle.model.proofs.Permanent.{count-matchings}
 use Rattle.model.proofs.Ranks.{waysLeft, unrank-way, none-left}
 use Rattle.rank.specs.LastTally.{LastTally}
-use Rattle.rank.proofs.PlanWalk.{Walking, toDo, ahead, allWays, walk-start, slot-lt, in-tally, fewer, both, passed, taken, one-less, walk-end}
+use Rattle.rank.proofs.PlanWalk.{Walking, remaining, ahead, allWays, walk-start, slot-lt, in-tally, fewer, both, passed, taken, one-less, walk-end}
 
 pub record Unranking (opens : List ℕ) (k i slots left further : ℕ) (p : List ℕ) : Type 0 where
   pub walk : Walking opens i slots left (k - further) p
@@ -43,10 +43,10 @@ pub record UnrankTurn (opens tally : List ℕ) (k i slots left further : ℕ) (p
   pub in-tally : others < length tally
   -- the plan sought has another slot there
   pub passed-over : getD tally others 0 ≤ further
-      → Unranking opens k i slots (without left (lowest left)) (further - getD tally others 0) p × (toDo opens i (without left (lowest left)) < toDo opens i left)
+      → Unranking opens k i slots (without left (lowest left)) (further - getD tally others 0) p × (remaining opens i (without left (lowest left)) < remaining opens i left)
   -- it has this one
   pub given : further < getD tally others 0 → {left′ : ℕ} → left′ ≡ bitAnd (getD opens (i + 1) 0) others
-      → Unranking opens k (i + 1) others left′ further (set p i slot) × (toDo opens (i + 1) left′ < toDo opens i left)
+      → Unranking opens k (i + 1) others left′ further (set p i slot) × (remaining opens (i + 1) left′ < remaining opens i left)
 
 module _ {opens tally : List ℕ} {k i slots left further : ℕ} {p : List ℕ} (ready : LastTally opens tally) (u : Unranking opens k i slots left further p)
     (more : i < length opens) where

@@ -4,7 +4,7 @@ use mathlib.Core.Logic.{_≢_}
 use native.Mathlib.Omega.{arith}
 use borrow.Author.Needs.{needs}
 use lib.ListN.{getD}
-use Rattle.rank.proofs.PlanWalk.{toDo}
+use Rattle.rank.proofs.PlanWalk.{remaining}
 use Rattle.rank.proofs.Ranking.{Ranking, RankTurn, ranking-start, some-left, slot-fits, rank-turn, ranking-end}
 use Rattle.rank.proofs.rank.Statement.{statement}
 use Rattle.rank.proofs.rank.Tie as tie
@@ -13,7 +13,7 @@ abbrev Inv-loop : tie.InvT-loop
 Inv-loop opens tally plan n number₀ set₀ left₀ i₀ number set left i = Ranking opens i set left number plan
 
 abbrev μ-loop : tie.MeasureT-loop
-μ-loop opens tally plan n number₀ set₀ left₀ i₀ number set left i = toDo opens i left
+μ-loop opens tally plan n number₀ set₀ left₀ i₀ number set left i = remaining opens i left
 
 -- the start, from the loop's head
 abbrev start : tie.At-loop Inv-loop μ-loop → tie.Start Inv-loop μ-loop

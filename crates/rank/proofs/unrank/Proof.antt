@@ -1,7 +1,7 @@
 -- `rank::unrank` meets its contract: each turn passes over a slot, or gives it to the item. Assumes nothing.
 use native.Mathlib.Omega.{arith}
 use borrow.Author.Needs.{needs}
-use Rattle.rank.proofs.PlanWalk.{toDo}
+use Rattle.rank.proofs.PlanWalk.{remaining}
 use Rattle.rank.proofs.Unranking.{Unranking, UnrankTurn, unranking-start, some-left, slot-fits, unrank-turn, unranking-end}
 use Rattle.rank.proofs.unrank.Statement.{statement}
 use Rattle.rank.proofs.unrank.Tie as tie
@@ -10,7 +10,7 @@ abbrev Inv-loop : tie.InvT-loop
 Inv-loop opens tally k n plan₀ further₀ set₀ left₀ i₀ plan further set left i = Unranking opens k i set left further plan
 
 abbrev μ-loop : tie.MeasureT-loop
-μ-loop opens tally k n plan₀ further₀ set₀ left₀ i₀ plan further set left i = toDo opens i left
+μ-loop opens tally k n plan₀ further₀ set₀ left₀ i₀ plan further set left i = remaining opens i left
 
 -- the start, from the loop's head
 abbrev start : tie.At-loop Inv-loop μ-loop → tie.Start Inv-loop μ-loop
