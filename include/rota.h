@@ -44,9 +44,9 @@
 #include <stddef.h>
 #include <stdint.h>
 
-/* The version, in numbers and as a text made of them: "2.2.0". */
-#define ROTA_VERSION_MAJOR 2
-#define ROTA_VERSION_MINOR 2
+/* The version, in numbers and as a text made of them: "3.0.0". */
+#define ROTA_VERSION_MAJOR 3
+#define ROTA_VERSION_MINOR 0
 #define ROTA_VERSION_PATCH 0
 #define ROTA_VERSION ROTA_VERSION_OF(ROTA_VERSION_MAJOR, ROTA_VERSION_MINOR, ROTA_VERSION_PATCH)
 #define ROTA_VERSION_OF(major, minor, patch) ROTA_VERSION_TEXT(major, minor, patch)
@@ -241,9 +241,10 @@ rota_count_answer rota_count_plans(size_t n, const uint64_t *opens, size_t opens
                                    const uint64_t *callouts, size_t callouts_len, uint64_t *tally, size_t tally_len);
 
 /*
- * The grade, by the number of complete plans and by whether some item is brittle, which means that it has just one usable
- * slot (rota_usable_slots), however many are open to it. On success the tally is left as by rota_count_plans, and with
- * ROTA_NO_PLAN as it was. Tests TABLES, ROTA_TOO_MANY_TO_COUNT, ROTA_TALLY_TOO_SHORT, ROTA_NO_PLAN.
+ * The grade: 1 with one complete plan; else 2 if some item is brittle, which means that it has just one usable slot
+ * (rota_usable_slots), however many are open to it; else 3 with up to 23 plans, 4 with up to 999, 5 with more. On success the
+ * tally is left as by rota_count_plans, and with ROTA_NO_PLAN as it was. Tests TABLES, ROTA_TOO_MANY_TO_COUNT,
+ * ROTA_TALLY_TOO_SHORT, ROTA_NO_PLAN.
  */
 rota_grade_answer rota_grade(size_t n, const uint64_t *opens, size_t opens_len,
                              const uint64_t *callouts, size_t callouts_len, uint64_t *tally, size_t tally_len);

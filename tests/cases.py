@@ -178,6 +178,11 @@ def good():
     yield "plans-1000-mixed", rota(thousand, some_callouts(3, thousand)), "end 1000"
     above = side_by_side(ladder(7), ladder(11), ladder(13))
     yield "plans-1001", rota(above, some_callouts(4, above)), "more 1000"
+    # an item more, for the last slot, which no other item may use: the number of plans stays
+    one_open = shuffled(6, thousand + [1 << len(thousand)])
+    yield "plans-1000-brittle", rota(one_open, some_callouts(7, one_open)), "end 1000"
+    every_open = above + [(2 << len(above)) - 1]
+    yield "plans-1001-brittle", rota(every_open, some_callouts(8, every_open)), "more 1000"
     for n in (2, 30, 31, 32, 61, 62, 63, 64):
         yield "identity-%d" % n, rota([1 << i for i in range(n)]), "end 1"
         backwards = [1 << (n - 1 - i) for i in range(n)]

@@ -259,6 +259,36 @@ static void without_a_tally(void)
     EXPECT(counted(3, CALLOUTS, 3, OPENS, 3).code == ROTA_CALLOUT_NOT_OPEN);
 }
 
+/* 1,000 plans: with item 7, which is brittle, grade 2, and without it grade 5. Every slot is open to item 7, and slot 7 to no other item. */
+static void brittle_of_many(void)
+{
+    static const uint64_t opens[8] = {120, 115, 124, 63, 95, 111, 127, 255}, callouts[8] = {0, 0, 0, 0, 0, 0, 0, 128}, none[7] = {0};
+    uint64_t tally[256] = {0};
+    rota_grade_answer grade;
+    rota_price_answer price;
+
+    grade = rota_grade(8, opens, 8, callouts, 8, tally, 256);
+    EXPECT(grade.code == ROTA_DONE && grade.grade == 2 && grade.items == 0 && grade.shortage == 0 && tally[255] == 1000);
+    tally[255] = 0;
+    price = rota_monthly_price(8, opens, 8, callouts, 8, 100, tally, 256);
+    EXPECT(price.code == ROTA_DONE && price.cents == 350 * 100 + 4500 && price.items == 0 && price.shortage == 0 && tally[255] == 1000);
+    grade = rota_grade_untallied(8, opens, 8, callouts, 8);
+    EXPECT(grade.code == ROTA_DONE && grade.grade == 2 && grade.items == 0 && grade.shortage == 0);
+    price = rota_monthly_price_untallied(8, opens, 8, callouts, 8, 100);
+    EXPECT(price.code == ROTA_DONE && price.cents == 350 * 100 + 4500 && price.items == 0 && price.shortage == 0);
+
+    tally[127] = 0;
+    grade = rota_grade(OPEN(7, opens), tally, 128);
+    EXPECT(grade.code == ROTA_DONE && grade.grade == 5 && grade.items == 0 && grade.shortage == 0 && tally[127] == 1000);
+    tally[127] = 0;
+    price = rota_monthly_price(OPEN(7, opens), 100, tally, 128);
+    EXPECT(price.code == ROTA_DONE && price.cents == 195 * 100 && price.items == 0 && price.shortage == 0 && tally[127] == 1000);
+    grade = rota_grade_untallied(OPEN(7, opens));
+    EXPECT(grade.code == ROTA_DONE && grade.grade == 5 && grade.items == 0 && grade.shortage == 0);
+    price = rota_monthly_price_untallied(OPEN(7, opens), 100);
+    EXPECT(price.code == ROTA_DONE && price.cents == 195 * 100 && price.items == 0 && price.shortage == 0);
+}
+
 enum { LENT_WORDS = 17 };
 
 static void lend_words(uint64_t *tally)
@@ -409,6 +439,7 @@ int main(void)
     sheets();
     tables();
     without_a_tally();
+    brittle_of_many();
     plan_numbers();
     many_plan_numbers();
     files();

@@ -5,10 +5,11 @@ import re
 from document import NUMBER, expect, match, number
 from files import sample
 from library import left, words_of
-from pricing import GRADED, rules
+from pricing import GRADED, fitting, rules
 from rotas import named, plain, rota_t, with_plans
 
-B = plain([7, 6, 6])  # the rota that is graded step by step, for its brittle item
+B = plain([7, 6, 6])  # a rota that is graded step by step, for its brittle item
+M = plain([120, 115, 124, 63, 95, 111, 127, 255])  # one of many plans; its last item is brittle
 LAST = bytes([1, 0, 2]) + bytes(61)  # T's last plan
 
 # A rule, a sentence of it with # for each number, and the names of what is found out below; a name may stand for some numbers in a row.
@@ -69,16 +70,38 @@ SENTENCES = (
     ("Lists of lister calls", "tables that give # to #, or another rota that gives #, # or #.", "bad-n not-open not-a-plan no-plan no-further"),
     ("Accepted rota", "none of the refusals # to # fits", "bad-n not-open"),
     ("Accepted rota", "if none of #, #, #, # and # does", "length check layout outside not-open"),
+    ("Grade", "they are tried in the order #, #, #, #, #.", "order"),
+    ("Grade", "A rota with # plans or more and a brittle item fits rules # and #, and brittle comes first: grade #.", "many fitting-m grade-of-m"),
+    ("Grade", "Rules #, #, # and # go by P alone,", "by-p-alone"),
+    ("Grade", "only the place of rule # decides anything: it stands after rule # and before the others.", "rule-of-b before-rule"),
     ("Grade", "The rota #, #, #, step by step", "words-of-b"),
-    ("Grade", "It has # plans, # # # and # # #, so rules # and # do not fit.", "count-of-b plans-of-b before-rule"),
+    ("Grade", "It has # plans, # # # and # # #, so rule # does not fit.", "count-of-b plans-of-b before-rule"),
     ("Grade", "Slots #, # and # are open to item #.", "open-of-b brittle-of-b"),
     ("Grade", "items # and # need slots # and #, so both plans give item # slot #", "others-of-b needed-of-b brittle-of-b held-of-b"),
     ("Grade", "So rule # fits, and the grade is #.", "rule-of-b grade-of-b"),
-    ("Grade", "Rules # and # are tried before rule #:", "before-rule rule-of-b"),
-    ("Grade", "and its grade is #; the last one has a brittle item, and its grade is #.", "first-graded last-graded"),
+    ("Grade", "The rota #, #, #, #, #, #, #, #, step by step", "words-of-m"),
+    ("Grade", "It has # plans, so rule # does not fit.", "count-of-m before-rule"),
+    ("Grade", "Slots # to # are open to item #.", "open-of-m brittle-of-m"),
+    ("Grade", "slot # is open to no other item, so all plans give it to item #:", "held-of-m brittle-of-m"),
+    ("Grade", "So rule # fits before rule # is tried, and the grade is #.", "rule-of-m rule-of-many grade-of-m"),
+    ("Grade", "Without item # there are # plans too, but no item is brittle: rule # fits, and the grade is #.",
+     "brittle-of-m count-of-many rule-of-many grade-of-many"),
+    ("Grade", "From # plans on the rotas stand in pairs", "first-pair"),
+    ("Grade", "at # plans no other slot is open to it,", "none-beside"),
+    ("Grade", "at # one other is,", "one-beside"),
+    ("Grade", "at #, # and # all of them.", "all-beside"),
+    ("Grade", "Without a brittle item the grade is # at # plans, # at # and # at #; with one it is # at all three.", "pairs-at-many"),
+    ("Grade", "Rule # is tried before rule #: the first rota has one plan, so that every item is brittle, and its grade is #.",
+     "before-rule rule-of-b first-graded"),
+    ("Grade", "Rule # is tried before rule #: the last one has # plans and a brittle item, and its grade is #.", "rule-of-b rule-of-many last-graded"),
     ("Monthly price", "The rota #, #, # has a brittle item, so its grade is #,", "words-of-b grade-of-b"),
-    ("Monthly price", "T has # plans, so rules # and # of the grade do not fit;", "plans-of-t before-rule"),
+    ("Monthly price", "The rota #, #, #, #, #, #, #, # has # plans and a brittle item, so its grade is #.", "words-of-m count-of-m grade-of-m"),
+    ("Monthly price", "Let the cell of item # and slot # be a callout: all plans hold it, so the fewest callouts are #.",
+     "brittle-of-m held-of-m callouts-of-m"),
+    ("Monthly price", "Without item # the grade is #, and the fewest callouts are #:", "brittle-of-m grade-of-many callouts-of-many"),
+    ("Monthly price", "T has # plans, so rule # of the grade does not fit;", "plans-of-t before-rule"),
     ("Monthly price", "each item has # usable slots or more, so rule # does not;", "least-usable-of-t rule-of-b"),
+    ("Monthly price", "the plans are fewer than #, so rule # does not;", "many rule-of-many"),
     ("Monthly price", "rule # fits, and the grade is #", "rule-of-t grade-of-t"),
     ("Monthly price", "# vehicles stand in the column", "fleet-of-t"),
     ("Monthly price", "The rate of grade # there is #", "grade-of-t rate-of-t"),
@@ -143,9 +166,8 @@ def price(doc, library, t):
     line = doc.indented("Monthly price", "[0-9]+ ×")[0]
     fleet = number(match("# × # .*", line)[1])
     cents, more = (library.monthly_price(t, vehicles, 8).numbers["cents"] for vehicles in (fleet, fleet + 1))
-    grade = library.grade(t, 8).numbers["grade"]
-    (rule,) = [place + 1 for place, row in enumerate(rules(doc)) if row[3] == grade]
-    return {"plans-of-t": library.count_plans(t, 8).numbers["count"], "rule-of-t": rule, "grade-of-t": grade, "fleet-of-t": fleet,
+    grade = grade_of(library, t)
+    return {"plans-of-t": count_of(library, t), "rule-of-t": with_grade(doc, grade), "grade-of-t": grade, "fleet-of-t": fleet,
             "rate-of-t": more - cents, "callouts-of-t": library.fewest_callouts(t, 64).numbers["callouts"], "cents-of-t": cents}
 
 
@@ -221,20 +243,80 @@ def ones(word):
     return [slot for slot in range(64) if word >> slot & 1]
 
 
+def count_of(library, rota):
+    return library.count_plans(rota, 1 << rota[0]).numbers["count"]
+
+
+def grade_of(library, rota):
+    return library.grade(rota, 1 << rota[0]).numbers["grade"]
+
+
+def with_grade(doc, grade):
+    """The number of the rule that gives the grade."""
+    (rule,) = [row.number for row in rules(doc) if row.grade == grade]
+    return rule
+
+
+def usable_in(library, rota):
+    """The usable table, and the items with just one usable slot."""
+    words = words_of(left(library.usable_slots(rota, rota[0]), "usable"))
+    return words, [i for i, word in enumerate(words) if len(ones(word)) == 1]
+
+
 def brittle(doc, library, t):
-    """What the library says of B, of its brittle item and of the others; T's fewest usable slots; the grades of the first and the last graded rota."""
-    usable, of_t = (words_of(left(library.usable_slots(rota, 3), "usable")) for rota in (B, t))
-    (item,) = [i for i, word in enumerate(usable) if len(ones(word)) == 1]
+    """What the library says of B, of its brittle item and of the others; T's fewest usable slots. The order of the rules is that of the document's table."""
+    usable, (item,) = usable_in(library, B)
     others = [i for i in range(3) if i != item]
-    first = library.first_plan(B).plan
-    grade = library.grade(B, 8).numbers["grade"]
-    (rule,) = [place + 1 for place, row in enumerate(rules(doc)) if row[3] == grade]
-    graded = [named(t, row[0]) for row in doc.table(*GRADED)]
-    first_graded, last_graded = (library.grade(rota, 1 << rota[0]).numbers["grade"] for rota in (graded[0], graded[-1]))
-    return {"words-of-b": B[1], "count-of-b": library.count_plans(B, 8).numbers["count"], "plans-of-b": first[:3] + library.next_plan(B, first).plan[:3],
+    first, grade = library.first_plan(B).plan, grade_of(library, B)
+    rule, order = with_grade(doc, grade), [row.number for row in rules(doc)]
+    return {"words-of-b": B[1], "count-of-b": count_of(library, B), "plans-of-b": first[:3] + library.next_plan(B, first).plan[:3],
             "open-of-b": ones(B[1][item]), "brittle-of-b": item, "others-of-b": others, "needed-of-b": ones(usable[others[0]] | usable[others[1]]),
-            "held-of-b": ones(usable[item]), "rule-of-b": rule, "before-rule": range(1, rule), "grade-of-b": grade,
-            "least-usable-of-t": min(len(ones(word)) for word in of_t), "first-graded": first_graded, "last-graded": last_graded}
+            "held-of-b": ones(usable[item]), "rule-of-b": rule, "order": order, "before-rule": order[:order.index(rule)], "grade-of-b": grade,
+            "by-p-alone": sorted(row.number for row in rules(doc) if row.which is None),
+            "least-usable-of-t": min(len(ones(word)) for word in usable_in(library, t)[0])}
+
+
+def many(library):
+    """The least number of plans that has the grade of very many, where no item is brittle."""
+    low, high = 2, 5000
+    while low < high:
+        middle = (low + high) // 2
+        low, high = (low, middle) if grade_of(library, with_plans(middle)) == grade_of(library, with_plans(5000)) else (middle + 1, high)
+    return low
+
+
+def of_many(doc, library):
+    """What the library says of M, of M with a callout where its brittle item must be, and of M without this item."""
+    usable, (item,) = usable_in(library, M)
+    rest = plain(M[1][:item])
+    expect(item == M[0] - 1 and usable_in(library, rest)[1] == [], "not the last item alone is brittle in", M[1])
+    called = plain(M[1], [0] * item + [usable[item]])
+    callouts, callouts_of_rest = (library.fewest_callouts(rota, 64).numbers["callouts"] for rota in (called, rest))
+    return {"many": many(library), "words-of-m": M[1], "count-of-m": count_of(library, M), "open-of-m": [min(ones(M[1][item])), max(ones(M[1][item]))],
+            "brittle-of-m": item, "held-of-m": ones(usable[item]), "rule-of-m": with_grade(doc, grade_of(library, M)), "grade-of-m": grade_of(library, M),
+            "fitting-m": sorted(row.number for row in fitting(rules(doc), M)), "callouts-of-m": callouts, "callouts-of-many": callouts_of_rest,
+            "count-of-many": count_of(library, rest), "rule-of-many": with_grade(doc, grade_of(library, rest)), "grade-of-many": grade_of(library, rest)}
+
+
+def pairs(doc, library, t):
+    """The graded rotas: the first, the last, and the pairs of which the second has as many plans and one item more, a brittle one. The plans of the pairs by
+    how many slots are open to this item beside the one that it gets, and the grades next to the number from which on the plans are many."""
+    graded = [named(t, row[0]) for row in doc.table(*GRADED)]
+    found = [(one, other) for one, other in zip(graded, graded[1:]) if other[0] == one[0] + 1 and count_of(library, one) == count_of(library, other)]
+    beside, near, bound = {}, [], many(library)
+    for one, other in found:
+        usable, (item,) = usable_in(library, other)
+        plans, slots = count_of(library, one), len(ones(other[1][item]))
+        expect(usable_in(library, one)[1] == [] and usable[item] == 1 << one[0], "not one item more, for the last slot, in", other[1])
+        beside.setdefault("all" if slots == other[0] else slots - 1, []).append(plans)
+        if abs(plans - bound) < 2:
+            near.append((grade_of(library, one), plans, grade_of(library, other)))
+    first = count_of(library, found[0][0])
+    expect([rota for rota in graded if count_of(library, rota) >= first] == [rota for pair in found for rota in pair], "rotas in no pair from", first)
+    expect(len({grade for _, _, grade in near}) == 1, "with a brittle item not one grade next to", bound, "plans")
+    return {"first-pair": first, "none-beside": beside[0], "one-beside": beside[1], "all-beside": beside["all"],
+            "pairs-at-many": [number for grade, plans, _ in near for number in (grade, plans)] + [near[0][2]],
+            "first-graded": grade_of(library, graded[0]), "last-graded": [count_of(library, graded[-1]), grade_of(library, graded[-1])]}
 
 
 def figures(library, program, t):
@@ -288,7 +370,8 @@ def prose(doc, library, program, header, places=None):
     expect(re.search(r"rota_cell_plan\([^;]*\bsize_t item,\s+size_t slot\);", declared), "a cell's item or slot is no size_t")
     (counted,), (numbered_by,) = re.findall(r"uint(\d+)_t count;", declared), re.findall(r"uint(\d+)_t k\b", declared)
     known = {"cap": int(bits), "size": 8 * ctypes.sizeof(ctypes.c_size_t), "count": int(counted), "number": int(numbered_by), **codes(library, t),
-             **price(doc, library, t), **brittle(doc, library, t), **untallied(library, t), **numbered(library, program, t), **figures(library, program, t)}
+             **price(doc, library, t), **brittle(doc, library, t), **of_many(doc, library), **pairs(doc, library, t), **untallied(library, t),
+             **numbered(library, program, t), **figures(library, program, t)}
     for title, sentence, names in SENTENCES:
         found, wanted = numbers_in(doc, title, sentence), []
         for name in names.split():

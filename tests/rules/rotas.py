@@ -27,9 +27,10 @@ def named(t, text):
     if text == "T":
         return t
     if text.startswith("open words "):
-        words = numbers(text[len("open words "):])
-        expect(all(word < 1 << 64 for word in words), "a word above 64 bits:", text)
-        return plain(words)
+        tables = [numbers(words) for words in text[len("open words "):].split(", callout words ")]
+        expect(all(word < 1 << 64 for words in tables for word in words), "a word above 64 bits:", text)
+        expect(len(tables) < 3 and len(tables[0]) == len(tables[-1]), "not a callout word for each open word:", text)
+        return plain(*tables)
     if text.endswith(" items, every cell open"):
         (n,) = match("# items, every cell open", text)
         return plain([(1 << min(number(n), 64)) - 1] * number(n))

@@ -26,23 +26,23 @@ from library import Library
 
 # How many examples of each kind the document has. Another number fails.
 EXAMPLES = {
-    "example lines": 139,
+    "example lines": 146,
     "columns of a sheet": 7,
     "lines of sheets": 16,
     "sets of Ryser's formula": 8,
     "beginnings of plans": 9,
     "lister calls": 9,
     "grade rules": 5,
-    "graded rotas": 7,
+    "graded rotas": 14,
     "rates": 15,
-    "prices as sums": 2,
+    "prices as sums": 4,
     "rows of a file's bytes": 11,
     "lines of T's dump": 5,
     "listings": 6,
     "refusals in C": 16,
     "pairs of tests": 362,
     "calls": 20,
-    "sentences with numbers": 84,
+    "sentences with numbers": 103,
     "words": 26,
     "rules linked": 37,
 }

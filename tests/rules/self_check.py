@@ -1,17 +1,18 @@
 """Shows that the test can fail: each line that it reads is changed in a copy of the document, one number or column of a sheet at a time, and the copy must be
-refused. So must rule 3 of the grade with open slots for usable ones, and Ryser's formula with another sign.
+refused. So must rule 3 of the grade with open slots for usable ones, the grade's rules in another order, and Ryser's formula with another sign.
 
 A change of what an example asks may give an example that is true as well; so may none of an answer or of a rule.
 """
 import re
 
+import pricing
 import prose
 from document import NUMBER, Document, Wrong
 
 # The columns of a table that ask; those behind them answer. In all other tables, and in a row that begins with a number, every number is a rule's.
 ASKING = {"Worked rotas": 2, "Lists of lister calls": 1, "Listing program": 1, "Grade": 1}
 # How many changes of what is asked leave the example true. Another number fails.
-STILL_TRUE = 128
+STILL_TRUE = 160
 
 
 def asked(title, line):
@@ -54,10 +55,10 @@ def refused(rules, examples, lines, place, instead, read):
     return False
 
 
-def unread_refused(rules, lines, more):
-    """Whether lines that no check reads are refused."""
+def fails(check, *given):
+    """Whether a check refuses what it is given."""
     try:
-        rules.run("\n".join(lines + more))
+        check(*given)
     except Wrong:
         return True
     return False
@@ -71,17 +72,32 @@ def swapped(row):
         yield "%s | %s |" % (head, ", ".join(parts[:k] + [parts[k + 1], parts[k]] + parts[k + 2:]))
 
 
+def exchanged(rules, examples, lines, document, read):
+    """Two neighbours among the grade's rules in each other's place. Where one of them is that of the brittle item, a rota that fits both gets another grade.
+    The others go by P alone, and no rota fits two of them: the grades stay, and only the sentence with the order refuses. Two rules with each other's number
+    have the same grades too, and the graded rotas refuse them."""
+    rows, tried = [place for place in document.section("Grade") if re.match(r"\| \d+ \| ", lines[place])], 0
+    for one, other in zip(rows, rows[1:]):
+        brittle = any("some item" in lines[place] for place in (one, other))
+        numbers, rests = zip(*(re.match(r"(\| \d+ \|)(.*)", lines[place]).groups() for place in (one, other)))
+        for instead, by_grades in (((lines[other], lines[one]), brittle), ((numbers[1] + rests[0], numbers[0] + rests[1]), False)):
+            copy = lines[:one] + list(instead) + lines[other + 1:]
+            if fails(pricing.grades, Document("\n".join(copy)), rules.library) != by_grades:
+                raise Wrong("the grades %s: %s / %s" % ("do not refuse" if by_grades else "refuse", *instead))
+            if not refused(rules, examples, copy, one, [copy[one]], read):
+                raise Wrong("the test does not refuse: %s / %s" % instead)
+            tried += 1
+    return tried
+
+
 def sentences(rules, text):
     """Every number of the sentences that are compared."""
     places = []
     prose.prose(Document(text), rules.library, rules.program, rules.header, places)
     for start, end in places:
         copy = text[:start] + str(int(text[start:end].replace(",", "")) + 1) + text[end:]
-        try:
-            prose.prose(Document(copy), rules.library, rules.program, rules.header)
-        except Wrong:
-            continue
-        raise Wrong("the test does not refuse: " + copy[start - 40:end + 40])
+        if not fails(prose.prose, Document(copy), rules.library, rules.program, rules.header):
+            raise Wrong("the test does not refuse: " + copy[start - 40:end + 40])
     return len(places)
 
 
@@ -105,9 +121,9 @@ def self_check(rules, examples, text, read):
                 if at >= asked(title, line):
                     raise Wrong("the test does not refuse: " + changed)
                 true += 1
-    tried += sentences(rules, text)
+    tried += exchanged(rules, examples, lines, document, read) + sentences(rules, text)
     for more in (["", "    T: nothing that is known"], ["| a |", "|---|", "| 1 |"]):
-        if not unread_refused(rules, lines, more):
+        if not fails(rules.run, "\n".join(lines + more)):
             raise Wrong("the test does not refuse what it does not read: " + more[-1])
     if true != STILL_TRUE:
         raise Wrong("%d changes of what is asked leave an example true, and there should be %d" % (true, STILL_TRUE))

@@ -1,4 +1,4 @@
--- Which answers of grade and price are not as before grade rule 3 counted usable slots. Assumes nothing.
+-- Which answers of grade and price are not the same as if grade rule 3 counted open slots. Assumes nothing.
 use mathlib.Core.Path.{_≡_, refl, sym, ap, _∙_}
 use mathlib.Core.Logic.{_⊎_, inl, inr}
 use mathlib.Core.Bool.{Bool, true, false, false≢true}
@@ -19,25 +19,34 @@ use Rattle.model.proofs.Plans.{plan-from}
 use Rattle.model.proofs.Laws.{few, range}
 use Rattle.model.proofs.Grades.{grade-one, grade-many, grade-forced, grade-few, grade-more}
 use Rattle.model.proofs.Forced.{single-into, single-from, forced-into, forced-from, one-allowed}
-use Rattle.demands.specs.BrittleItems.{someOneOpen, gradeBefore, Regraded, BrittleItems}
-use Rattle.demands.proofs.Contracts.{grade-each}
-use Rattle.demands.proofs.Regrading.{Change, regrading, keeps-2}
+use Rattle.demands.specs.BrittleItems.{someOneOpen, openGrade, Regraded, BrittleItems}
+use Rattle.demands.proofs.Regrading.{Lower, Change, regrading, keeps-2}
 
--- ---- the rotas whose grade changed
+-- ---- the rotas whose grade is another
 
-module _ (n : ℕ) (opens : List ℕ) where
-  three-or-four : Regraded n opens → (gradeBefore n opens ≡ 3) ⊎ (gradeBefore n opens ≡ 4)
-  unfolding someOneOpen gradeBefore
-  three-or-four r =
-      let none : someOneOpen opens ≡ false = is-false _ (λ t. let o = single-from opens (is-true _ t) in r .more-open (o .0) (o .1) (o .2)) in
-      rw none (elim (decLt 23 (count n opens)) [
-        | yes h ↦ inr (grade-more _ (omega arith) (r .few))
-        | no h ↦ inl (grade-few _ (r .some) (omega arith))
-      ])
+module _ (n : ℕ) (opens : List ℕ) (r : Regraded n opens) where
+  by-open : openGrade n opens ≡ gradeOf (count n opens) false
+  unfolding someOneOpen openGrade
+  by-open = ap (gradeOf (count n opens)) (is-false _ (λ t. let o = single-from opens (is-true _ t) in r .more-open (o .0) (o .1) (o .2)))
 
-  to-2 : Regraded n opens → rotaGrade n opens ≡ 2
+  three-or-four : count n opens ≤ 999 → (openGrade n opens ≡ 3) ⊎ (openGrade n opens ≡ 4)
+  three-or-four few =
+      elim (decLt 23 (count n opens))
+      [ yes h ↦ inr (by-open ∙ grade-more _ (omega arith) few) | no h ↦ inl (by-open ∙ grade-few _ (r .some) (omega arith)) ]
+
+  five : 1000 ≤ count n opens → openGrade n opens ≡ 5
+  five many = by-open ∙ grade-many _ many
+
+  lower : Lower (openGrade n opens)
+  lower =
+      elim (decLt 999 (count n opens)) [
+        | yes h ↦ inr (inr (five (omega arith)))
+        | no h ↦ elim (three-or-four (omega arith)) [ inl e ↦ inl e | inr e ↦ inr (inl e) ]
+      ]
+
+  to-2 : rotaGrade n opens ≡ 2
   unfolding rotaGrade
-  to-2 r = let b = r .brittle in ap (gradeOf (count n opens)) (forced-into n opens (b .0) (b .1) (b .2)) ∙ grade-forced (count n opens) (r .some) (r .few)
+  to-2 = let b = r .brittle in ap (gradeOf (count n opens)) (forced-into n opens (b .0) (b .1) (b .2)) ∙ grade-forced (count n opens) (r .some)
 
 -- ---- the grade of an accepted rota, by both readings
 
@@ -64,25 +73,17 @@ module _ (n : ℕ) (opens callouts : List ℕ) (ok : tableCode n n opens callout
         let o = single-from opens e in
         forced-into n opens (o .0) (o .1) (one-open-brittle (plan .0) (plan .1) (o .0) (o .1) (o .2))
 
-    -- with one plan, and with 1,000 or more, another rule comes first
+    -- with one plan rule 1 comes first
     now-forced : someOneOpen opens ≡ false → someForced n opens ≡ true → (gradeOf (count n opens) true ≡ gradeOf (count n opens) false) ⊎ Regraded n opens
     unfolding someOneOpen
     now-forced e d =
         elim (decLt 1 (count n opens)) [
           | no h ↦ inl (grade-one _ true (omega arith) ∙ sym (grade-one _ false (omega arith)))
-          | yes h ↦ elim (decLt 999 (count n opens)) [
-            | yes l ↦ inl (grade-many _ true (omega arith) ∙ sym (grade-many _ false (omega arith)))
-            | no l ↦ inr record {
-              some = omega arith;
-              few = omega arith;
-              brittle = forced-from n opens d;
-              more-open = λ i g o. false≢true (sym e ∙ single-into opens i g o);
-            }
-          ]
+          | yes h ↦ inr record { some = h; brittle = forced-from n opens d; more-open = λ i g o. false≢true (sym e ∙ single-into opens i g o) }
         ]
 
-    else-same : (rotaGrade n opens ≡ gradeBefore n opens) ⊎ Regraded n opens
-    unfolding rotaGrade gradeBefore
+    else-same : (rotaGrade n opens ≡ openGrade n opens) ⊎ Regraded n opens
+    unfolding rotaGrade openGrade
     else-same = go (someOneOpen opens) (someForced n opens) refl refl
       where
         go : (b c : Bool) → someOneOpen opens ≡ b → someForced n opens ≡ c → (gradeOf (count n opens) c ≡ gradeOf (count n opens) b) ⊎ Regraded n opens
@@ -92,13 +93,9 @@ module _ (n : ℕ) (opens callouts : List ℕ) (ok : tableCode n n opens callout
 
 -- ---- the theorem
 
-change : Change gradeBefore Regraded
-change =
-    record {
-      lower = λ n opens r. elim (three-or-four n opens r) [ inl e ↦ inl e | inr e ↦ inr (inl e) ];
-      to-2 = to-2;
-      else-same = else-same;
-    }
+change : Change openGrade Regraded
+change = record { lower = lower; to-2 = to-2; else-same = else-same }
 
 pub brittle-items : BrittleItems
-brittle-items = record { one-open = one-open-brittle; stays = keeps-2 change; three-or-four = three-or-four; answers = regrading change }
+brittle-items =
+    record { one-open = one-open-brittle; stays = keeps-2 change; three-or-four = three-or-four; five = five; answers = regrading change }

@@ -11,3 +11,4 @@ mod Regrading
 pub mod BrittleItems
 pub mod Untallied
 pub mod PlanNumbers
+pub mod RuleOrder

@@ -1,5 +1,6 @@
 -- Brittle items: "An item is brittle in our trade when one usable slot is left to it, so grade rule 3 shall count usable slots." Rule 3 asked
--- for an item with one open slot before. That reading stands in this file alone: to say which answers are not the same by both. Assumes nothing.
+-- for an item with one open slot before. That reading stands in this file alone: to say which answers are not the same by both, the rules being
+-- tried in the order of now. Assumes nothing.
 use mathlib.Core.Path.{_≡_}
 use mathlib.Core.Logic.{_≢_, _⊎_}
 use mathlib.Core.Bool.{Bool}
@@ -15,21 +16,20 @@ use Rattle.model.specs.Grade.{someSingle, gradeOf}
 use Rattle.demands.specs.Calls.{EachGrade}
 use Rattle.demands.specs.Regrading.{Regrading}
 
--- ---- before
+-- ---- by open slots
 
 -- some item has just one open slot
 unfoldable pub someOneOpen : List ℕ → Bool
 someOneOpen opens = someSingle opens
 
-unfoldable pub gradeBefore : ℕ → List ℕ → ℕ
-gradeBefore n opens = gradeOf (count n opens) (someOneOpen opens)
+unfoldable pub openGrade : ℕ → List ℕ → ℕ
+openGrade n opens = gradeOf (count n opens) (someOneOpen opens)
 
--- ---- before and now
+-- ---- by open slots and by usable ones
 
--- the rotas whose grade changed: 2 to 999 plans, one usable slot left to some item, and more than one open to each
+-- the rotas whose grade is another: 2 plans or more, one usable slot left to some item, and more than one open to each
 pub record Regraded (n : ℕ) (opens : List ℕ) : Type 0 where
   pub some : 2 ≤ count n opens
-  pub few : count n opens ≤ 999
   pub brittle : (i : ℕ) × (i < length opens) × (ones (allowedWord n opens i) ≡ 1)
   pub more-open : (i : ℕ) → i < length opens → ones (getD opens i 0) ≢ 1
 
@@ -38,7 +38,8 @@ pub record BrittleItems : Type 1 where
   pub one-open : (n : ℕ) (opens callouts : List ℕ) → tableCode n n opens callouts ≡ 0 → (p : List ℕ) → IsPlan opens p
       → (i : ℕ) → i < length opens → ones (getD opens i 0) ≡ 1 → ones (allowedWord n opens i) ≡ 1
   -- so no rota leaves grade 2
-  pub stays : EachGrade (λ n opens callouts tally r new. r .code ≡ 0 → gradeBefore n opens ≡ 2 → r .grade ≡ 2)
-  -- the answers that change go from grade 3 or 4 to 2
-  pub three-or-four : (n : ℕ) (opens : List ℕ) → Regraded n opens → (gradeBefore n opens ≡ 3) ⊎ (gradeBefore n opens ≡ 4)
-  pub answers : Regrading gradeBefore Regraded
+  pub stays : EachGrade (λ n opens callouts tally r new. r .code ≡ 0 → openGrade n opens ≡ 2 → r .grade ≡ 2)
+  -- the answers that change go to grade 2: with up to 999 plans from grade 3 or 4, with more from 5
+  pub three-or-four : (n : ℕ) (opens : List ℕ) → Regraded n opens → count n opens ≤ 999 → (openGrade n opens ≡ 3) ⊎ (openGrade n opens ≡ 4)
+  pub five : (n : ℕ) (opens : List ℕ) → Regraded n opens → 1000 ≤ count n opens → openGrade n opens ≡ 5
+  pub answers : Regrading openGrade Regraded

@@ -63,7 +63,8 @@ pub record Tallied (n : ℕ) (word : ℕ → ℕ) (old new : List ℕ) : Type 0 
 abbrev pub Brittle : List ℕ → ℕ → Type 0
 Brittle opens i = (i < length opens) × (j : ℕ) × ((k : ℕ) → ((p : List ℕ) × IsPlan opens p × (getD p i 0 ≡ k)) ↔ (k ≡ j))
 
--- the grade of a rota with P plans: "The rules are tried from the top; the first that fits gives the grade". Rule 3 fits if some item is brittle.
+-- the grade of a rota with P plans: "The rules are tried from the top; the first that fits gives the grade", in the order 1, 3, 2, 4, 5. Rule 3
+-- fits if some item is brittle.
 pub record Graded (P : ℕ) (opens : List ℕ) (grade : ℕ) : Type 0 where
   pub some : 1 ≤ P
   pub some-brittle : Bool

@@ -9,3 +9,4 @@ pub mod Regrading
 pub mod BrittleItems
 pub mod Untallied
 pub mod PlanNumbers
+pub mod RuleOrder

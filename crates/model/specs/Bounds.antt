@@ -60,9 +60,12 @@ codes = search refl
 -- the rules of the grade, the second argument saying whether some item is forced; the rates' columns; the blocks
 pub record Figures : Type 0 where
   pub rule-1 : gradeOf 1 true ≡ 1
-  pub rule-2 : gradeOf 1000 true ≡ 5
-  pub rule-3 : gradeOf 999 true ≡ 2
-  pub rule-3-least : gradeOf 2 true ≡ 2
+  pub rule-3 : gradeOf 2 true ≡ 2
+  pub rule-3-999 : gradeOf 999 true ≡ 2
+  pub rule-3-1000 : gradeOf 1000 true ≡ 2
+  pub rule-3-1001 : gradeOf 1001 true ≡ 2
+  pub rule-2 : gradeOf 1000 false ≡ 5
+  pub rule-2-1001 : gradeOf 1001 false ≡ 5
   pub rule-4 : gradeOf 2 false ≡ 3
   pub rule-4-most : gradeOf 23 false ≡ 3
   pub rule-5 : gradeOf 24 false ≡ 4

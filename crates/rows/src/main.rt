@@ -1,8 +1,11 @@
 // The worked rotas that no theorem computes (docs/RULES.md), run through the calls: a line for each, with the code and, if one is given,
-// the plan. The count of 20 items is not among them, since its tally is too long for a program's stack.
+// the plan; the graded ones with count, grade and price. The count of 20 items is not among them, since its tally is too long for a
+// program's stack.
 use libc::STDOUT_FILENO;
 use rota::counting;
 use rota::plans;
+use rota::pricing;
+use rota::untallied;
 
 fn text(s: &[u8]) {
     io::write_all(STDOUT_FILENO, s);
@@ -74,10 +77,64 @@ fn items_21() {
     text(b"\n");
 }
 
+// Count, grade and the price of 100 vehicles; grade and price again with no tally.
+fn graded(row: &[u8], n: usize, opens: &[u64], callouts: &[u64]) {
+    let mut tally = [0u64; 512];
+    let a = counting::rota_count_plans(n, opens, callouts, &mut tally);
+    let b = pricing::rota_grade(n, opens, callouts, &mut tally);
+    let c = pricing::rota_monthly_price(n, opens, callouts, 100, &mut tally);
+    let d = untallied::rota_grade_untallied(n, opens, callouts);
+    let e = untallied::rota_monthly_price_untallied(n, opens, callouts, 100);
+    text(row);
+    number(a.count);
+    text(b" plans, grade ");
+    number(b.grade as u64);
+    text(b", price ");
+    number(c.cents);
+    text(b"; no tally: grade ");
+    number(d.grade as u64);
+    text(b", price ");
+    number(e.cents);
+    text(b"\n");
+}
+
+// Without a brittle item; with a further item that is brittle since the other items need its other slot.
+fn plans_999() {
+    let opens = [7u64, 23, 147, 159, 222, 127, 254, 255];
+    let callouts = [0u64; 8];
+    graded(b"no brittle item: ", 8, &opens, &callouts);
+    let opens = [7u64, 23, 147, 159, 222, 127, 254, 255, 257];
+    let callouts = [0u64; 9];
+    graded(b"item 8 brittle: ", 9, &opens, &callouts);
+}
+
+// The further item is brittle since the others need all of its slots but one, which is a callout.
+fn plans_1000() {
+    let opens = [120u64, 115, 124, 63, 95, 111, 127];
+    let callouts = [0u64; 7];
+    graded(b"no brittle item: ", 7, &opens, &callouts);
+    let opens = [120u64, 115, 124, 63, 95, 111, 127, 255];
+    let callouts = [0u64, 0, 0, 0, 0, 0, 0, 128];
+    graded(b"item 7 brittle, by a callout: ", 8, &opens, &callouts);
+}
+
+// The further item is brittle by its one open slot.
+fn plans_1001() {
+    let opens = [120u64, 115, 126, 87, 95, 111, 127];
+    let callouts = [0u64; 7];
+    graded(b"no brittle item: ", 7, &opens, &callouts);
+    let opens = [128u64, 120, 115, 126, 87, 95, 111, 127];
+    let callouts = [0u64; 8];
+    graded(b"item 0 brittle: ", 8, &opens, &callouts);
+}
+
 fn main() {
     all_open();
     items_65();
     items_0();
     slot_63_of_63();
     items_21();
+    plans_999();
+    plans_1000();
+    plans_1001();
 }

@@ -4,7 +4,10 @@
 use super::families::{scrambled, with_count};
 use crate::random::Random;
 use crate::reference::matching;
-use crate::rota::{low, Tables};
+use crate::rota::{low, slots_of, Tables};
+
+/// Items and slots that go together: the number of plans and the open words.
+pub type Block = (u64, Vec<u64>);
 
 #[derive(Clone, Copy, PartialEq, Eq, Debug)]
 pub enum Kind {
@@ -40,6 +43,14 @@ impl Kind {
         }
     }
 
+    /// How many blocks without a brittle item it is made of.
+    pub fn blocks(self) -> usize {
+        match self {
+            SpareCells | Between => 2,
+            _ => 1,
+        }
+    }
+
     /// Whether some open cell is not usable.
     pub fn differs(self) -> bool {
         ![AllUsable, OneOpen].contains(&self)
@@ -58,6 +69,22 @@ impl Kind {
     }
 }
 
+/// The kinds with a brittle item.
+pub const BRITTLE: [Kind; 5] = [SeveralOpen, TwoBrittle, Between, OneOpen, OneOpenShared];
+
+/// Seven items with 1,000 and with 1,001 plans: every open cell is usable, and no item brittle. Six items have 720 plans at most.
+pub const SEVEN: [(u64, [u64; 7]); 2] =
+    [(1_000, [126, 123, 111, 47, 125, 23, 63]), (1_001, [126, 103, 127, 117, 125, 123, 75])];
+
+/// The same of 16 items with one plan more than 2 to the power 32.
+pub const SIXTEEN: (u64, [u64; 16]) = (
+    (1 << 32) + 1,
+    [
+        64_998, 16_111, 55_613, 30_386, 63_773, 62_631, 60_724, 6_502, 52_955, 39_863, 44_294, 2_974, 36_063, 28_094,
+        12_441, 64_760,
+    ],
+);
+
 /// The numbers other than 1 and the count that divide it: none if it is 1 or a prime.
 pub fn factors(count: u64) -> Vec<u64> {
     (2..count).filter(|factor| count % factor == 0).collect()
@@ -65,26 +92,44 @@ pub fn factors(count: u64) -> Vec<u64> {
 
 /// The open words of a rota of this kind, which exists, with so many plans. Items and slots are in random order.
 pub fn rota(kind: Kind, count: u64, random: &mut Random) -> Vec<u64> {
+    let blocks = match kind.blocks() {
+        2 => {
+            let factor = random.pick(&factors(count));
+            vec![with_count(factor, random), with_count(count / factor, random)]
+        }
+        _ => vec![with_count(count, random)],
+    };
+    of_blocks(kind, blocks, random)
+}
+
+/// The same from its blocks, as many as the kind has.
+pub fn of_blocks(kind: Kind, mut blocks: Vec<Vec<u64>>, random: &mut Random) -> Vec<u64> {
     let item = vec![1];
-    let mut two_blocks = || {
-        let factor = random.pick(&factors(count));
-        (with_count(factor, random), with_count(count / factor, random))
-    };
-    let blocks = match kind {
-        SpareCells => {
-            let (one, other) = two_blocks();
-            vec![one, other]
-        }
-        Between => {
-            let (one, other) = two_blocks();
-            vec![one, item, other]
-        }
-        AllUsable => vec![with_count(count, random)],
-        SeveralOpen => vec![with_count(count, random), item],
-        TwoBrittle => vec![with_count(count, random), item.clone(), item],
-        OneOpen | OneOpenShared => vec![item, with_count(count, random)],
-    };
+    match kind {
+        AllUsable | SpareCells => {}
+        SeveralOpen => blocks.push(item),
+        TwoBrittle => blocks.extend([item.clone(), item]),
+        Between => blocks.insert(1, item),
+        OneOpen | OneOpenShared => blocks.insert(0, item),
+    }
     scrambled(joined(&blocks, kind != OneOpen, random), random)
+}
+
+/// A block with every cell open.
+pub fn full(items: usize) -> Block {
+    ((1..=items as u64).product(), vec![low(items); items])
+}
+
+/// So many items with as many plans as before. Each turn an item gives up an open slot for a further one, and a further item has both:
+/// it takes the old slot in plans that gave it to the item, the further one in the others. If no item was brittle, none is.
+pub fn lengthened(mut opens: Vec<u64>, items: usize, random: &mut Random) -> Vec<u64> {
+    while opens.len() < items {
+        let (item, further) = (random.below(opens.len()), opens.len());
+        let slot = random.pick(&slots_of(opens[item]));
+        opens[item] ^= 1 << slot | 1 << further;
+        opens.push(1 << slot | 1 << further);
+    }
+    opens
 }
 
 /// Items and slots in cycles of these sizes, each of which has two plans; a cycle of one is a brittle item.

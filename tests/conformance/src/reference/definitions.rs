@@ -1,9 +1,9 @@
-//! Document 01's definitions by brute force, for rotas of at most seven items: all permutations, filtered.
+//! Document 01's definitions by brute force, for rotas of at most eight items: all permutations, filtered.
 
 use crate::rota::{has, plan_of, slots_of, Cell, Plan, Tables};
 use std::sync::OnceLock;
 
-pub const GREATEST_N: usize = 7;
+pub const GREATEST_N: usize = 8;
 
 /// All permutations of the numbers below n, in no particular order.
 fn permutations(n: usize) -> &'static [Vec<usize>] {

@@ -17,7 +17,7 @@ use std::cell::OnceCell;
 /// How the facts about a rota are found.
 #[derive(Clone, Copy, PartialEq, Eq, Debug)]
 pub enum Method {
-    /// From the definitions, up to seven items.
+    /// From the definitions, up to eight items.
     Definitions,
     /// By matching, assignment, layers and Ryser's formula.
     Search,

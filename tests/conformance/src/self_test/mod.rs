@@ -24,12 +24,14 @@ use std::process::ExitCode;
 const SEED: u64 = 1;
 
 /// The subjects that find wrong sheets, grades, prices, counts without a tally and plan numbers; without a fault they find nothing.
-const FAULTLESS: [&str; 10] = [
+const FAULTLESS: [&str; 12] = [
     "refusals",
     "sheets",
     "apart",
     "prices",
     "brittle",
+    "overlap",
+    "overlap of many items",
     "untallied",
     "untallied at bounds",
     "numbers",

@@ -12,10 +12,11 @@ use crate::session::{Outcome, Session};
 const PRODUCTS: [u64; 10] = [22, 24, 25, 26, 998, 999, 1_000, 1_001, 1_002, 5_000];
 
 /// Where the brittle item of n items stands.
-const PLACES: [fn(usize) -> usize; 3] = [|_| 0, |n| n / 2, |n| n - 1];
+pub const PLACES: [fn(usize) -> usize; 3] = [|_| 0, |n| n / 2, |n| n - 1];
 
-/// Of grades 1 to 5: how many rotas each place makes whose open cells are all usable, and how many others.
-const MADE: [[usize; 2]; 5] = [[1, 1], [9, 33], [4, 1], [5, 5], [8, 20]];
+/// Of grades 1 to 5: how many rotas each place makes whose open cells are all usable, and how many others. Of grade 2 there are 9 and
+/// 33 with up to 999 plans, 4 and 16 with more.
+const MADE: [[usize; 2]; 5] = [[1, 1], [9 + 4, 33 + 16], [4, 1], [5, 5], [4, 4]];
 
 /// Items in cycles, and their grade: few plans for so many items, up to the greatest number that is graded.
 const CYCLES: [(&[usize], u32); 8] = [
@@ -56,7 +57,7 @@ fn brittle_items(session: &mut Session, random: &mut Random) -> Outcome {
 }
 
 /// The rota is what it should be, by the reference.
-fn of_kind(kind: Kind, count: u64, place: usize, known: &Known) {
+pub fn of_kind(kind: Kind, count: u64, place: usize, known: &Known) {
     let (rota, n) = (&known.tables, known.n());
     let just_one = |words: &[u64]| (0..n).filter(|&item| words[item].count_ones() == 1).collect::<Vec<usize>>();
     let (brittle, one_open) = (just_one(known.usable()), just_one(&rota.opens));
@@ -87,13 +88,17 @@ fn many_items(session: &mut Session, random: &mut Random) -> Outcome {
         let callouts: Vec<u64> = opens.iter().map(|open| open & random.word()).collect();
         let known = Known::new(Tables::new(n, &opens, &callouts));
         assert_eq!(pricing::grade(known.usable(), known.count()), grade, "cycles of {sizes:?}");
-        session.grade(&known, 1 << n)?;
-        let vehicles = 1 + random.below(10_000) as u64;
-        session.monthly_price(&known, vehicles, 1 << n)?;
-        session.grade_untallied(&known)?;
-        session.price_untallied(&known, vehicles)?;
+        each_call(session, &known, 1 + random.below(10_000) as u64)?;
     }
     Ok(())
+}
+
+/// Grade and price, with a tally of 2 to the power n words and without one.
+pub fn each_call(session: &mut Session, known: &Known, vehicles: u64) -> Outcome {
+    session.grade(known, 1 << known.n())?;
+    session.monthly_price(known, vehicles, 1 << known.n())?;
+    session.grade_untallied(known)?;
+    session.price_untallied(known, vehicles)
 }
 
 /// All 65,536 open tables of four items, with some of the cells as callouts.
@@ -102,11 +107,7 @@ fn every_table_of_four(session: &mut Session, random: &mut Random) -> Outcome {
         let opens = [0, 4, 8, 12].map(|from| number >> from & 15);
         let callouts = opens.map(|open| open & random.word());
         let known = Known::new(Tables::new(4, &opens, &callouts));
-        session.grade(&known, 16)?;
-        let vehicles = battery::fleet(random);
-        session.monthly_price(&known, vehicles, 16)?;
-        session.grade_untallied(&known)?;
-        session.price_untallied(&known, vehicles)?;
+        each_call(session, &known, battery::fleet(random))?;
     }
     Ok(())
 }

@@ -9,6 +9,7 @@ mod damage;
 mod files;
 mod listings;
 mod numbers;
+mod overlap;
 mod prices;
 mod refusals;
 mod sheets;
@@ -22,7 +23,7 @@ use crate::session::{Outcome, Session};
 
 type Subject = fn(&mut Session, &mut Random) -> Outcome;
 
-const SUBJECTS: [(&str, Subject); 18] = [
+const SUBJECTS: [(&str, Subject); 20] = [
     ("worked", worked::run),
     ("refusals", refusals::run),
     ("small", small::run),
@@ -32,6 +33,8 @@ const SUBJECTS: [(&str, Subject); 18] = [
     ("listings", listings::run),
     ("prices", prices::run),
     ("brittle", brittle::run),
+    ("overlap", overlap::run),
+    ("overlap of many items", overlap::many_items),
     ("files", files::run),
     ("damage", damage::run),
     ("sizes", sizes::run),
