@@ -71,6 +71,11 @@ pub fn dense(n: usize) -> Rota {
     plain(n, |_| slots(0, n))
 }
 
+/// The last item alone may use the last slot: it is brittle, and there are as many plans as of one item less, every cell open.
+pub fn brittle(n: usize) -> Rota {
+    plain(n, |i| slots(0, if i + 1 < n { n - 1 } else { n }))
+}
+
 pub fn triangle_up(n: usize) -> Rota {
     plain(n, |i| slots(0, i + 1))
 }

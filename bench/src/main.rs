@@ -138,6 +138,15 @@ fn counts(report: &mut Report, n: usize) {
     }
 }
 
+/// Grade and price of 5,040 plans and a brittle item are those of Rust; no timed family has both.
+fn brittle_agrees() {
+    let (n, r) = (8, families::brittle(8));
+    agree("brittle", |s| (s.grade)(n, &r.opens, &r.callouts, &mut vec![0; 1 << n]));
+    agree("brittle", |s| (s.monthly_price)(n, &r.opens, &r.callouts, VEHICLES, &mut vec![0; 1 << n]));
+    agree("brittle", |s| (s.grade_untallied)(n, &r.opens, &r.callouts));
+    agree("brittle", |s| (s.monthly_price_untallied)(n, &r.opens, &r.callouts, VEHICLES));
+}
+
 /// How the times grow with n.
 fn growth(report: &mut Report) {
     growth_of_first(report);
@@ -293,6 +302,7 @@ fn main() {
     plans(&mut report, 64, families(64));
     plans(&mut report, 20, counted(20));
     cells::cells(&mut report);
+    brittle_agrees();
     counts(&mut report, 20);
     untallied::counts(&mut report, 20);
     numbers::numbers(&mut report, 20);
