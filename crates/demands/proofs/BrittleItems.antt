@@ -17,10 +17,10 @@ use Rattle.model.specs.Grade.{someForced, gradeOf, rotaGrade}
 use Rattle.model.proofs.Members.{is-true, is-false, mem-at}
 use Rattle.model.proofs.Plans.{plan-from}
 use Rattle.model.proofs.Laws.{few, range}
-use Rattle.model.proofs.Grades.{grade-one, grade-many, grade-forced, grade-few, grade-more}
+use Rattle.model.proofs.Grades.{grade-one, grade-many, grade-few, grade-more}
 use Rattle.model.proofs.Forced.{single-into, single-from, forced-into, forced-from, one-allowed}
 use Rattle.demands.specs.BrittleItems.{someOneOpen, openGrade, Regraded, BrittleItems}
-use Rattle.demands.proofs.Regrading.{Lower, Change, regrading, keeps-2}
+use Rattle.demands.proofs.Regrading.{Lower, brittle-2, Change, regrading, keeps-2}
 
 -- ---- the rotas whose grade is another
 
@@ -45,8 +45,7 @@ module _ (n : ℕ) (opens : List ℕ) (r : Regraded n opens) where
       ]
 
   to-2 : rotaGrade n opens ≡ 2
-  unfolding rotaGrade
-  to-2 = let b = r .brittle in ap (gradeOf (count n opens)) (forced-into n opens (b .0) (b .1) (b .2)) ∙ grade-forced (count n opens) (r .some)
+  to-2 = brittle-2 n opens (r .some) (r .brittle)
 
 -- ---- the grade of an accepted rota, by both readings
 

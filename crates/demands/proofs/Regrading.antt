@@ -2,7 +2,7 @@
 use mathlib.Core.Path.{_≡_, refl, sym, ap, _∙_}
 use mathlib.Core.Logic.{_≢_, _⊎_, inl, inr}
 use mathlib.Core.List.{List, []}
-use Prim.Native.Nat.{ℕ, zero, suc, _<_}
+use Prim.Native.Nat.{ℕ, zero, suc, _≤_, _<_}
 use native.Mathlib.Nat.{mul-le-mul-right}
 use native.Mathlib.Omega.{arith}
 use lib.ListN.{length, getD}
@@ -12,18 +12,19 @@ use Rattle.model.specs.Rota.{tableCode}
 use Rattle.model.specs.Refusal.{orElse, unless, written, fleetCode}
 use Rattle.model.specs.Fewest.{fewest}
 use Rattle.model.specs.Count.{count, subsetCounts}
-use Rattle.model.specs.Grade.{rotaGrade, rates, rate, monthlyPrice}
+use Rattle.model.specs.Grade.{gradeOf, rotaGrade, rates, rate, monthlyPrice}
 use Rattle.model.specs.CountAnswers.{sizedCode, countCode}
 use Rattle.model.specs.PriceAnswers.{gradeGiven, gradeRefused, gradeBy, gradeUnless, gradeAnswer, gradeTally, untalliedGrade, priceGiven, priceRefused, priceBy}
 use Rattle.model.specs.PriceAnswers.{priceUnless, priceCode, priceAnswer, priceTally, untalliedPriceCode, untalliedPrice}
 use Rattle.model.proofs.Refusals.{neither-refuses, fleet-passed}
-use Rattle.model.proofs.Grades.{by-column}
-use Rattle.demands.specs.Regrading.{gradeWas, priceWas, Moved, Regrading}
+use Rattle.model.proofs.Grades.{grade-forced, by-column}
+use Rattle.model.proofs.Forced.{forced-into}
+use Rattle.demands.specs.Regrading.{gradeWas, priceWas, OneUsable, Moved, Regrading}
 use Rattle.demands.specs.Calls.{EachGrade}
 use Rattle.demands.proofs.Contracts.{grade-each, price-each, untallied-grade-each, untallied-price-each}
 use Rattle.demands.proofs.Outcomes.{CodeTested, sized-tested, untallied-price-tested, count-tested, price-tested}
 
--- ---- grades with lower rates than 2
+-- ---- grade 2, and the grades with lower rates
 
 abbrev pub Lower : ℕ → Type 0
 Lower grade = (grade ≡ 3) ⊎ (grade ≡ 4) ⊎ (grade ≡ 5)
@@ -41,6 +42,10 @@ rate-lt grade vehicles g =
 cheaper : (grade vehicles callouts : ℕ) → Lower grade → vehicles ≢ 0 → monthlyPrice grade vehicles callouts < monthlyPrice 2 vehicles callouts
 unfolding monthlyPrice
 cheaper grade vehicles callouts g some = omega (arith, mul-le-mul-right vehicles (rate-lt grade vehicles g))
+
+pub brittle-2 : (n : ℕ) (opens : List ℕ) → 2 ≤ count n opens → OneUsable n opens → rotaGrade n opens ≡ 2
+unfolding rotaGrade
+brittle-2 n opens some b = ap (gradeOf (count n opens)) (forced-into n opens (b .0) (b .1) (b .2)) ∙ grade-forced (count n opens) some
 
 -- ---- answers by a number of plans and a figure
 

@@ -1,5 +1,5 @@
 -- Which answers of grade and price are not as before rule 3 of the grade was tried before rule 2. Assumes nothing.
-use mathlib.Core.Path.{_≡_, refl, ap, _∙_}
+use mathlib.Core.Path.{_≡_, refl}
 use mathlib.Core.Logic.{_⊎_, inl, inr}
 use mathlib.Core.Bool.{Bool, true, false}
 use mathlib.Core.List.{List}
@@ -9,10 +9,9 @@ use native.Mathlib.Omega.{arith}
 use borrow.Author.Tests.{ne-eqb, le-leb, lt-leb}
 use Rattle.model.specs.Count.{count}
 use Rattle.model.specs.Grade.{someForced, gradeOf, rotaGrade}
-use Rattle.model.proofs.Grades.{grade-forced}
-use Rattle.model.proofs.Forced.{forced-into, forced-from}
+use Rattle.model.proofs.Forced.{forced-from}
 use Rattle.demands.specs.RuleOrder.{orderBefore, gradeBefore, Overlap, RuleOrder}
-use Rattle.demands.proofs.Regrading.{regrading}
+use Rattle.demands.proofs.Regrading.{brittle-2, regrading}
 
 -- the two orders agree but where rules 2 and 3 both fit
 same-or-both : (number : ℕ) (forced : Bool) → (gradeOf number forced ≡ orderBefore number forced) ⊎ ((1000 ≤ number) × (forced ≡ true))
@@ -26,10 +25,7 @@ module _ (n : ℕ) (opens : List ℕ) where
   five o = let m = o .many in simp (ne-eqb (count n opens) 1 (omega arith), le-leb 1000 (count n opens) m)
 
   to-2 : Overlap n opens → rotaGrade n opens ≡ 2
-  unfolding rotaGrade
-  to-2 o =
-      let m = o .many in let b = o .brittle in
-      ap (gradeOf (count n opens)) (forced-into n opens (b .0) (b .1) (b .2)) ∙ grade-forced (count n opens) (omega arith)
+  to-2 o = let m = o .many in brittle-2 n opens (omega arith) (o .brittle)
 
   else-same : (rotaGrade n opens ≡ gradeBefore n opens) ⊎ Overlap n opens
   unfolding rotaGrade gradeBefore

@@ -14,7 +14,7 @@ use Rattle.model.specs.Allowed.{allowedWord}
 use Rattle.model.specs.Count.{count}
 use Rattle.model.specs.Grade.{someSingle, gradeOf}
 use Rattle.demands.specs.Calls.{EachGrade}
-use Rattle.demands.specs.Regrading.{Regrading}
+use Rattle.demands.specs.Regrading.{OneUsable, Regrading}
 
 -- ---- by open slots
 
@@ -30,7 +30,7 @@ openGrade n opens = gradeOf (count n opens) (someOneOpen opens)
 -- the rotas whose grade is another: 2 plans or more, one usable slot left to some item, and more than one open to each
 pub record Regraded (n : ℕ) (opens : List ℕ) : Type 0 where
   pub some : 2 ≤ count n opens
-  pub brittle : (i : ℕ) × (i < length opens) × (ones (allowedWord n opens i) ≡ 1)
+  pub brittle : OneUsable n opens
   pub more-open : (i : ℕ) → i < length opens → ones (getD opens i 0) ≢ 1
 
 pub record BrittleItems : Type 1 where

@@ -4,9 +4,11 @@ use mathlib.Core.Path.{_≡_}
 use mathlib.Core.Logic.{_⊎_}
 use mathlib.Core.List.{List}
 use Prim.Native.Nat.{ℕ, _<_}
+use lib.Count.{ones}
 use lib.ListN.{length}
 use Rattle.model.specs.declared.GradeAnswer.{GradeAnswer}
 use Rattle.model.specs.declared.PriceAnswer.{PriceAnswer}
+use Rattle.model.specs.Allowed.{allowedWord}
 use Rattle.model.specs.Fewest.{fewest}
 use Rattle.model.specs.Count.{count, subsetCounts}
 use Rattle.model.specs.Grade.{monthlyPrice}
@@ -26,6 +28,10 @@ priceWas before code n opens callouts vehicles =
     unless priceRefused code (priceBy opens (count n opens) (monthlyPrice (before n opens) vehicles (fewest n opens callouts)))
 
 -- ---- before and now
+
+-- one usable slot is left to some item
+abbrev pub OneUsable : ℕ → List ℕ → Type 0
+OneUsable n opens = (i : ℕ) × (i < length opens) × (ones (allowedWord n opens i) ≡ 1)
 
 -- an answer with this number, and the one before: where the rota gets a grade and is concerned, both are known; every other answer is as before
 pub record Moved {A : Type 0} (Concerned : Type 0) (code : ℕ) (was is from to : A) : Type 0 where

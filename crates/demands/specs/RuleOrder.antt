@@ -5,14 +5,11 @@
 use mathlib.Core.Path.{_≡_}
 use mathlib.Core.Bool.{Bool, cond}
 use mathlib.Core.List.{List}
-use Prim.Native.Nat.{ℕ, _≤_, _<_}
-use lib.Count.{ones}
+use Prim.Native.Nat.{ℕ, _≤_}
 use lib.Dec.{eqb, leb}
-use lib.ListN.{length}
-use Rattle.model.specs.Allowed.{allowedWord}
 use Rattle.model.specs.Count.{count}
 use Rattle.model.specs.Grade.{someForced}
-use Rattle.demands.specs.Regrading.{Regrading}
+use Rattle.demands.specs.Regrading.{OneUsable, Regrading}
 
 -- ---- before
 
@@ -33,7 +30,7 @@ gradeBefore n opens = orderBefore (count n opens) (someForced n opens)
 -- rules 2 and 3 both fit: 1,000 plans or more, and one usable slot left to some item
 pub record Overlap (n : ℕ) (opens : List ℕ) : Type 0 where
   pub many : 1000 ≤ count n opens
-  pub brittle : (i : ℕ) × (i < length opens) × (ones (allowedWord n opens i) ≡ 1)
+  pub brittle : OneUsable n opens
 
 pub record RuleOrder : Type 1 where
   -- the answers that change go from grade 5 to 2
