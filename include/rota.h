@@ -44,9 +44,9 @@
 #include <stddef.h>
 #include <stdint.h>
 
-/* The version, in numbers and as a text made of them: "3.0.0". */
+/* The version, in numbers and as a text made of them: "3.1.0". */
 #define ROTA_VERSION_MAJOR 3
-#define ROTA_VERSION_MINOR 0
+#define ROTA_VERSION_MINOR 1
 #define ROTA_VERSION_PATCH 0
 #define ROTA_VERSION ROTA_VERSION_OF(ROTA_VERSION_MAJOR, ROTA_VERSION_MINOR, ROTA_VERSION_PATCH)
 #define ROTA_VERSION_OF(major, minor, patch) ROTA_VERSION_TEXT(major, minor, patch)
