@@ -60,13 +60,15 @@ def try_answers(command):
         rota = small(source, 5)
         place = Place(command, form(source, rota), mode=MODES[k % len(MODES)])
         for turn in range(5):
-            place.change(source.choice(CHANGES), source.randrange(rota.n), source.randrange(rota.n), source.random() < 0.4, build=int(turn == 0 and k % 2 == 0))
+            cell = source.randrange(rota.n), source.randrange(rota.n)
+            place.change(source.choice(CHANGES), *cell, source.random() < 0.4, build=int(turn == 0 and k % 2 == 0))
 
 
 def try_large(command):
     """Refused sides: more than twenty items, and no plan before, after or on both sides."""
     source = seeded("large changes")
-    for rota in samples()["twenty-items"], side_by_side(source, 21), side_by_side(source, 64), side_by_side(source, 64, broken=True), EveryCell(32):
+    mixed = [side_by_side(source, n, broken) for n, broken in ((21, False), (64, False), (64, True))]
+    for rota in [samples()["twenty-items"], EveryCell(32)] + mixed:
         place = Place(command, form(source, rota))
         for verb in CHANGES:
             place.change(verb, source.randrange(rota.n), source.randrange(rota.n), verb == "close")
@@ -122,7 +124,8 @@ def try_names(command):
     (away / "whole").symlink_to((place.folder / place.file).resolve())
     (command.folder / "folder").symlink_to("away")
     links = sorted((path.name, os.readlink(path)) for path in away.iterdir())
-    for verb, name in ("close", "away/link"), ("open", "away/again"), ("callout", "away/whole"), ("close", "folder/again"), ("open", "./away/../away/link"):
+    asked = ("close", "away/link"), ("open", "away/again"), ("callout", "away/whole"), ("close", "folder/again"), ("open", "./away/../away/link")
+    for verb, name in asked:
         wanted, after = change(name, place.data, verb, 0, 1)
         place.expect([verb, name, "0", "1"], wanted, after)
         command.same([verb, name], (sorted((path.name, os.readlink(path)) for path in away.iterdir()),), (links,))
@@ -137,7 +140,9 @@ def try_names(command):
 def try_unread(command):
     (command.folder / "nowhere").symlink_to("missing")
     (command.folder / "round").symlink_to("round")
-    for name, why in ("missing", "No such file or directory"), ("nowhere", "No such file or directory"), (".", "Is a directory"), ("round", "Too many levels of symbolic links"), ("", "No such file or directory"):
+    missing = "No such file or directory"
+    unread = ("missing", missing), ("nowhere", missing), ("", missing), (".", "Is a directory"), ("round", "Too many levels of symbolic links")
+    for name, why in unread:
         for verb in CHANGES:
             command.expect([verb, name, "0", "0"], ("", f"rota: can't read {name}: {why}\n", 3))
     for verb in CHANGES:
@@ -148,10 +153,10 @@ def try_unread(command):
 
 # ---- what fails
 
-def limited(most):
-    """No file may grow beyond so many bytes."""
+def limited(most, ignored=True):
+    """No file may grow beyond so many bytes; a signal tells of it, unless it is ignored."""
     def before():
-        signal.signal(signal.SIGXFSZ, signal.SIG_IGN)
+        signal.signal(signal.SIGXFSZ, signal.SIG_IGN if ignored else signal.SIG_DFL)
         resource.setrlimit(resource.RLIMIT_FSIZE, (most, most))
     return before
 
@@ -168,7 +173,7 @@ def try_limits(command):
         for data in tidy(rota), file_of(rota):
             for build, most in (0, 0), (1, 1), (0, len(data) // 2), (1, len(data) - 1):
                 place = Place(command, data)
-                place.fails("close", 0, first_open(rota), "File too large", build, before=limited(most))
+                place.fails("close", 0, first_open(rota), "File too large", build, before=limited(most, most % 2 == 0))
             Place(command, data).change("close", 0, first_open(rota), before=limited(len(data)))
 
 
@@ -193,9 +198,9 @@ def try_permissions(command):
                 place.change("open", 1, 0, before=as_nobody)  # it is open already
             closed.folder.chmod(0o777)
             closed.change("close", 1, 0, build=build, before=as_nobody)
-    hidden = Place(command, tidy(T), mode=0o200)
-    words = ["open", hidden.name(), "1", "0"]
-    hidden.expect(words, ("", f"rota: can't read {hidden.name()}: Permission denied\n", 3), hidden.data, before=as_nobody)
+    hidden = command.write(tidy(T))
+    (command.folder / hidden).chmod(0o200)
+    command.expect(["open", hidden, "1", "0"], ("", f"rota: can't read {hidden}: Permission denied\n", 3), before=as_nobody)
     command.builds = builds
 
 

@@ -23,13 +23,15 @@ def refused():
     """Bytes that are refused, a text among them, and texts that are none."""
     for _, data, _ in cases.damaged():
         yield data
-    yield from (b"", b"# nothing\n", b"o" * 65, b"\n\n  " + b"." * 70, b"ROTA", b"ROTA" * 128, b"ROTA" + bytes(508), b"x", b"oo\no", b"oo", b"o o", b"o\no")
+    yield from (b"", b"# nothing\n", b"o" * 65, b"\n\n  " + b"." * 70, b"ROTA", b"ROTA" * 128, b"ROTA" + bytes(508))
+    yield from (b"x", b"oo\no", b"oo", b"o o", b"o\no")
 
 
 def try_accepted(command):
     source = seeded(command.part)
     rotas = [rota_of(*tables) for tables in WORKED] + list(samples().values()) + [small(source) for _ in range(40)]
-    rotas += [side_by_side(source, n, broken) for n in (12, 20, 21, 64) for broken in (False, True)] + [EveryCell(20), EveryCell(21), EveryCell(64)]
+    rotas += [side_by_side(source, n, broken) for n in (12, 20, 21, 64) for broken in (False, True)]
+    rotas += [EveryCell(20), EveryCell(21), EveryCell(64)]
     for k, rota in enumerate(rotas):
         for as_json in False, True:
             for data in file_of(rota), (tidy(rota), written(source, rota))[k % 2]:

@@ -116,7 +116,8 @@ def try_picture(command, rota, data, piped):
 
 def rotas():
     source = seeded("draw")
-    yield from (Tried([3, 7, 6], [1, 0, 4]), Tried([1, 7, 6, 15], [0, 3, 4, 14]), Tried([1]), Tried([1], [1]), Tried([0]), Tried([0, 3], [0, 3]), rota_of([0] * 64))
+    yield from (Tried([3, 7, 6], [1, 0, 4]), Tried([1, 7, 6, 15], [0, 3, 4, 14]), Tried([1]), Tried([1], [1]), Tried([0]), Tried([0, 3], [0, 3]))
+    yield rota_of([0] * 64)
     yield from samples().values()
     for n in 8, 11, 20, 21, 33, 64:
         yield side_by_side(source, n)

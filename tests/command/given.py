@@ -37,9 +37,11 @@ def try_slots(command):
         for plan in plans:
             printed = plan_line(Tried(*T), plan).split()
             slots = printed[:3]
-            for words in (slots, printed, slots + ["/"], slots + ["/", "x", "99", "", "-", "/"], ["00" + slots[0], "0" * 30 + slots[1], slots[2]], ["--", *slots], ["--", *printed]):
+            for words in (slots, printed, ["--", *slots], ["--", *printed], [*slots, "/"], [*slots, "/", "x", "99", "", "-", "/"],
+                          ["00" + slots[0], "0" * 30 + slots[1], slots[2]]):
                 ask_slots(command, name, data, words, plan)
-            for words in (["--json", *printed], [*printed, "--json"], [slots[0], "--json", *slots[1:]], ["--json", "--", *slots], [*slots, "/", "--json", "2"]):
+            for words in (["--json", *printed], [*printed, "--json"], [slots[0], "--json", *slots[1:]], ["--json", "--", *slots],
+                          [*slots, "/", "--json", "2"]):
                 ask_slots(command, name, data, words, plan, True)
         for plan in [0, 0, 2], [2, 0, 1], [0, 1, 3], [0, 1, 63], [63, 63, 63], [1, 2, 0]:
             ask_slots(command, name, data, map(str, plan), plan, False)
@@ -90,13 +92,20 @@ def try_sheets(command):
 
 
 def wrong_sheets():
-    yield from (b"", b"\n\n", b"  ", b"\n \n\t", SHEET[1:], b"IT SL\n", b"IT SL C C\n", b"it sl c\n", b"ITSLC", b"0 0\n1 2\n2 1\n", MARK + SHEET, b"\0" + SHEET, b"\n\nIT SL D\n", b"C SL IT\n0 0\n")
-    yield from (b"IT SL C", b"IT SL C\n", b"IT SL C\n0 0\n", b"IT SL C\n0 0\n2 1", b"IT SL C\n\n1 2\n2 1\n\n", b"IT SL C\n0 0\n1 2\n2 1\n1 2\n", b"IT SL C\n0 0\n0 0\n1 1\n")
-    yield from (b"IT SL C\n3 0\n", b"IT SL C\n0 0\n1 2\n2 1\n3 3\n", b"IT SL C\n63 1\n", b"IT SL C\n64 1\n", b"IT SL C\n4294967296 1\n", b"IT SL C\n0003 1\n", b"IT SL C\n256 1\n")
-    yield from (b"IT SL C\n0\n", b"IT SL C\n0 0 C C\n", b"IT SL C\n0 0 c\n", b"IT SL C\n0 0 0\n", b"IT SL C\n0 64\n", b"IT SL C\n0 4294967296\n", b"IT SL C\n0 18446744073709551616\n", b"IT SL C\nC\n")
-    yield from (b"IT SL C\n-1 0\n", b"IT SL C\n0 -1\n", b"IT SL C\n0 +1\n", b"IT SL C\nx 1\n", b"IT SL C\n0 1x\n", b"IT SL C\n0 1\0\n", b"IT SL C\n0 \xb2\n", b"IT SL C\n0 0 # x\n", b"IT SL C\nIT SL C\n")
-    yield from (SHEET + SHEET, SHEET + b"\n\n", SHEET[:-1], b"IT SL C\n0 0 C\n1 2 C\n2 1 C", b"IT SL C\n0 2\n1 1\n2 0\n", b"IT SL C\n0 0\n1 1\n2 63\n", b"\r\n" + SHEET.replace(b"\n", b"\r\n"))
-    yield from (SHEET + b" " * (MOST_BYTES - len(SHEET)), SHEET + b"\n" * (MOST_BYTES - len(SHEET) + 1), SHEET + b"0" * 100000 + b" 1", SHEET + b"x" * 300000)
+    yield from (b"", b"\n\n", b"  ", b"\n \n\t", SHEET[1:], b"IT SL\n", b"IT SL C C\n", b"it sl c\n", b"ITSLC", b"0 0\n1 2\n2 1\n", MARK + SHEET,
+                b"\0" + SHEET, b"\n\nIT SL D\n", b"C SL IT\n0 0\n")
+    yield from (b"IT SL C", b"IT SL C\n", b"IT SL C\n0 0\n", b"IT SL C\n0 0\n2 1", b"IT SL C\n\n1 2\n2 1\n\n", b"IT SL C\n0 0\n1 2\n2 1\n1 2\n",
+                b"IT SL C\n0 0\n0 0\n1 1\n")
+    yield from (b"IT SL C\n3 0\n", b"IT SL C\n0 0\n1 2\n2 1\n3 3\n", b"IT SL C\n63 1\n", b"IT SL C\n64 1\n", b"IT SL C\n4294967296 1\n",
+                b"IT SL C\n0003 1\n", b"IT SL C\n256 1\n")
+    yield from (b"IT SL C\n0\n", b"IT SL C\n0 0 C C\n", b"IT SL C\n0 0 c\n", b"IT SL C\n0 0 0\n", b"IT SL C\n0 64\n", b"IT SL C\n0 4294967296\n",
+                b"IT SL C\n0 18446744073709551616\n", b"IT SL C\nC\n")
+    yield from (b"IT SL C\n-1 0\n", b"IT SL C\n0 -1\n", b"IT SL C\n0 +1\n", b"IT SL C\nx 1\n", b"IT SL C\n0 1x\n", b"IT SL C\n0 1\0\n",
+                b"IT SL C\n0 \xb2\n", b"IT SL C\n0 0 # x\n", b"IT SL C\nIT SL C\n")
+    yield from (SHEET + SHEET, SHEET + b"\n\n", SHEET[:-1], b"IT SL C\n0 0 C\n1 2 C\n2 1 C", b"IT SL C\n0 2\n1 1\n2 0\n",
+                b"IT SL C\n0 0\n1 1\n2 63\n", b"\r\n" + SHEET.replace(b"\n", b"\r\n"))
+    yield from (SHEET + b" " * (MOST_BYTES - len(SHEET)), SHEET + b"\n" * (MOST_BYTES - len(SHEET) + 1), SHEET + b"0" * 100000 + b" 1",
+                SHEET + b"x" * 300000)
 
 
 def try_wrong_sheets(command):

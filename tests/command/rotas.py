@@ -33,11 +33,11 @@ def side_by_side(source, n, broken=False):
 
 
 def small(source, most=6):
-    """A rota of up to six items, from few open cells to many."""
+    """A rota of up to six items, from few open cells to many; more than half have a plan."""
     n = source.randint(1, most)
-    dense = source.random() ** 0.5
+    dense = source.random()
     opens = [sum(1 << j for j in range(n) if source.random() < dense) for _ in range(n)]
-    if source.random() < 0.7:
+    if source.random() < 0.6:
         opens = cases.shuffled(source.getrandbits(32), [word | 1 << i for i, word in enumerate(opens)])
     called = source.random()
     return rota_of(opens, [sum(1 << j for j in range(n) if word >> j & 1 and source.random() < called) for word in opens])

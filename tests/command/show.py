@@ -28,6 +28,14 @@ grade            3
 """
 
 
+# What the environment of a terminal has, and whether there is colour.
+TERMINALS = [
+    ({"TERM": "xterm"}, True), ({"TERM": "xterm", "NO_COLOR": ""}, True), ({"TERM": "vt100"}, True), ({"TERM": "dumber"}, True),
+    ({}, False), ({"TERM": "dumb"}, False), ({"NO_COLOR": ""}, False),
+    ({"TERM": "xterm", "NO_COLOR": "1"}, False), ({"TERM": "xterm", "NO_COLOR": "0"}, False),
+]
+
+
 def rotas():
     """One to 64 items; on either side of 10, 20 and 32 the form changes."""
     source = seeded("show")
@@ -63,13 +71,11 @@ def try_colours(command):
         file = command.write(file_of(rota))
         plain, colour = Ask("show").wanted(file, file_of(rota), rota=rota), painted(rota)
         assert re.sub("\x1b\\[[0-9;]*m", "", colour) == plain[0] != colour
-        for environment, with_colour in (
-            ({"TERM": "xterm"}, True), ({"TERM": "xterm", "NO_COLOR": ""}, True), ({"TERM": "vt100"}, True), ({"TERM": "dumber"}, True),
-            ({}, False), ({"TERM": "dumb"}, False), ({"TERM": "xterm", "NO_COLOR": "1"}, False), ({"TERM": "xterm", "NO_COLOR": "0"}, False), ({"NO_COLOR": ""}, False),
-        ):
+        for environment, with_colour in TERMINALS:
             given = command.terminal(["show", file], environment, k % 2)
             command.same(["show", file, environment], given, (colour if with_colour else plain[0], "", 0))
-        command.same(["show", file, "--json"], command.terminal(["show", file, "--json"], {"TERM": "xterm"}), Ask("show").wanted(file, file_of(rota), True, rota))
+        words = ["show", file, "--json"]
+        command.same(words, command.terminal(words, {"TERM": "xterm"}), Ask("show").wanted(file, file_of(rota), True, rota))
     file = command.write(tidy(T))
     for words in ["usable", file], ["text", file], ["check", file], ["list", file]:
         command.same(words, command.terminal(words, {"TERM": "xterm"}), Ask(words[0]).wanted(file, tidy(T)))

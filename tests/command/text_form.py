@@ -11,18 +11,25 @@ WIDE = b"." * 64 + b"\n"
 
 def made():
     """Texts and other bytes, each for a rule of the text form."""
-    yield from (b"", b"\n", b"\n \n\t\n", b"# no cells", b"   ", b"\r\n", MARK, MARK + b"\n", MARK + MARK + T, MARK[:2] + T, b"\n" + MARK + T, MARK + b"# x\n" + T)
-    yield from (T, T[:-1], MARK + T, T.replace(b"\n", b"\r\n"), T.replace(b"\n", b"\r"), T.replace(b"\n", b"\n\n"), b"\n\n" + T, T + b"\n\n  \n", T + b" ")
+    yield from (b"", b"\n", b"\n \n\t\n", b"# no cells", b"   ", b"\r\n", MARK, MARK + b"\n", MARK + MARK + T, MARK[:2] + T, b"\n" + MARK + T,
+                MARK + b"# x\n" + T)
+    yield from (T, T[:-1], MARK + T, T.replace(b"\n", b"\r\n"), T.replace(b"\n", b"\r"), T.replace(b"\n", b"\n\n"), b"\n\n" + T, T + b"\n\n  \n",
+                T + b" ")
     yield from (b"Co. # unit 17\nooo# unit 18\n\t.oC\t# x # y", b"#\n" + T + b"#", b" Co.\n  ooo \n\t.oC\r\n", b"Co.\nooo\n.oC# \0\xff\xc3\xa9 .oC")
-    yield from (b".", b"o\n", b"C", b"\n\no\n\n", b"#o\no", b"oo\nC.\n", b"x", b"'", b"O\n", b"0", b"\xc3\xa9", b"\x7f", b"\x0b", b"\0", b"o\0", b"~", b"!")
+    yield from (b".", b"o\n", b"C", b"\n\no\n\n", b"#o\no", b"oo\nC.\n", b"x", b"'", b"O\n", b"0", b"\xc3\xa9", b"\x7f", b"\x0b", b"\0", b"o\0",
+                b"~", b"!")
     # what follows the cells
     yield from (b"o o", b"Co. x\nooo\n.oC\n", b"Co.\nooo o\n.oC\n", b"C o.\nooo\n.oC\n", b"Co.\t \r C\n", b"Co.\r.\n", b"o\rx", b"o \0")
     # too few and too many
-    yield from (b"Co.\nooo\n", b"Co.\nooo", b"Co.\n", b"Co.", b"Co.\n\n\n# x\n", b"Co.\n\n\n# x", b"Co.\noo\n.oC\n", b"Co.\noo", b"Co.\n  oo # x\n.oC", b"Co.\nooo\n.oCo\n")
-    yield from (b"Co.\n ooooooo\n", T + b"...\n", T + b"\n\n  .\n", T + b"x\n", T + b"oooo", T + T, b"oo\n", b"o\no\n", b"o\noo", b"oo\no", b"Co.\nooo\nx", b"Co.\nooox\n")
+    yield from (b"Co.\nooo\n", b"Co.\nooo", b"Co.\n", b"Co.", b"Co.\n\n\n# x\n", b"Co.\n\n\n# x", b"Co.\noo\n.oC\n", b"Co.\noo",
+                b"Co.\n  oo # x\n.oC", b"Co.\nooo\n.oCo\n")
+    yield from (b"Co.\n ooooooo\n", T + b"...\n", T + b"\n\n  .\n", T + b"x\n", T + b"oooo", T + T, b"oo\n", b"o\no\n", b"o\noo", b"oo\no",
+                b"Co.\nooo\nx", b"Co.\nooox\n")
     # 64 items and more
-    yield from (WIDE * 64, WIDE * 64 + b"\n# x", WIDE * 65, WIDE * 63, b"." + WIDE, b"\n\n." + WIDE * 65, b"o" * 64 + b"x\n", b"o" * 65 + b"x", b"o" * 200, WIDE + b"." + WIDE)
-    yield from (WIDE * 64 + b"x", WIDE * 64 + b".", WIDE * 64 + b"#.", WIDE + b"." * 63, b" " * 100 + WIDE * 64, b"." * 64 + b"#" + b"." * 64 + b"\n" + WIDE * 63, b"." * 63 + b"\n" + WIDE)
+    yield from (WIDE * 64, WIDE * 64 + b"\n# x", WIDE * 65, WIDE * 63, b"." + WIDE, b"\n\n." + WIDE * 65, b"o" * 64 + b"x\n", b"o" * 65 + b"x",
+                b"o" * 200, WIDE + b"." + WIDE)
+    yield from (WIDE * 64 + b"x", WIDE * 64 + b".", WIDE * 64 + b"#.", WIDE + b"." * 63, b" " * 100 + WIDE * 64,
+                b"." * 64 + b"#" + b"." * 64 + b"\n" + WIDE * 63, b"." * 63 + b"\n" + WIDE)
     # no rota file, or a wrong one
     yield from (b"R", b"ROT", b"ROTA", b"ROTAooo", b"rota", b"RO\nTA", b" ROTA", MARK + b"ROTA", b"ROTa" + bytes(508))
 

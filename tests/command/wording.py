@@ -6,7 +6,7 @@ from pathlib import Path
 
 import cases
 from grid import figures, looks, plain_grid
-from reading import Unread, plan_in, rota_in, text_of
+from reading import Unread, rota_in, text_of
 from reference import Refused
 from samples import slots_of
 

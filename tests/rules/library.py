@@ -1,4 +1,4 @@
-"""The calls of the library, by ctypes over a shared object. What a call is lent lies between guards.
+"""The calls of the library, by ctypes over a shared object, with the records of the Python module. What a call is lent lies between guards.
 
 Each call is given plain values and gives an Answer: the number, the other numbers by name, the plan's bytes or None, what was lent, by name
 with its bytes before and after, and the names of what is not as it was. Calls are pure, so each is made once for the same values.
@@ -7,43 +7,15 @@ import collections
 import ctypes
 import functools
 import struct
+import sys
+from pathlib import Path
+
+sys.path.append(str(Path(__file__).resolve().parents[2] / "python"))
+from rota._library import CountAnswer, GradeAnswer, NumberAnswer, PlanAnswer, PlanRecord, PriceAnswer, ReadAnswer, WriteAnswer  # noqa: E402
 
 Answer = collections.namedtuple("Answer", "code numbers plan lent changed")
 GUARD = b"\x5a" * 64
 FILL = b"\xa5"
-
-
-class Plan(ctypes.Structure):
-    _fields_ = [("slots", ctypes.c_uint8 * 64)]
-
-
-class PlanAnswer(ctypes.Structure):
-    _fields_ = [("code", ctypes.c_uint32), ("shortage", ctypes.c_uint32), ("items", ctypes.c_uint64), ("callouts", ctypes.c_uint32),
-                ("plan", Plan)]
-
-
-class CountAnswer(ctypes.Structure):
-    _fields_ = [("code", ctypes.c_uint32), ("count", ctypes.c_uint64)]
-
-
-class NumberAnswer(ctypes.Structure):
-    _fields_ = [("code", ctypes.c_uint32), ("number", ctypes.c_uint64)]
-
-
-class GradeAnswer(ctypes.Structure):
-    _fields_ = [("code", ctypes.c_uint32), ("grade", ctypes.c_uint32), ("shortage", ctypes.c_uint32), ("items", ctypes.c_uint64)]
-
-
-class PriceAnswer(ctypes.Structure):
-    _fields_ = [("code", ctypes.c_uint32), ("shortage", ctypes.c_uint32), ("items", ctypes.c_uint64), ("cents", ctypes.c_uint64)]
-
-
-class ReadAnswer(ctypes.Structure):
-    _fields_ = [("code", ctypes.c_uint32), ("n", ctypes.c_uint64)]
-
-
-class WriteAnswer(ctypes.Structure):
-    _fields_ = [("code", ctypes.c_uint32), ("bytes", ctypes.c_uint64)]
 
 
 class Lent:
@@ -117,7 +89,7 @@ class Library:
 
     @functools.lru_cache(maxsize=None)
     def next_plan(self, rota, given):
-        return self.on_tables("rota_next_plan", PlanAnswer, rota, [Plan.from_buffer_copy(given)])
+        return self.on_tables("rota_next_plan", PlanAnswer, rota, [PlanRecord.from_buffer_copy(given)])
 
     @functools.lru_cache(maxsize=None)
     def list_plan(self, rota, lister):
@@ -136,7 +108,7 @@ class Library:
     @functools.lru_cache(maxsize=None)
     def plan_sheet(self, rota, given, places):
         page = Lent(FILL * places)
-        return self.on_tables("rota_plan_sheet", ctypes.c_uint32, rota, [Plan.from_buffer_copy(given), (page, 1)], [("page", page)])
+        return self.on_tables("rota_plan_sheet", ctypes.c_uint32, rota, [PlanRecord.from_buffer_copy(given), (page, 1)], [("page", page)])
 
     @functools.lru_cache(maxsize=None)
     def usable_slots(self, rota, places):
@@ -178,7 +150,7 @@ class Library:
     @functools.lru_cache(maxsize=None)
     def plan_number(self, rota, given, places):
         tally = Lent(filled(places))
-        return self.on_tables("rota_plan_number", NumberAnswer, rota, [Plan.from_buffer_copy(given), (tally, 8)], [("tally", tally)])
+        return self.on_tables("rota_plan_number", NumberAnswer, rota, [PlanRecord.from_buffer_copy(given), (tally, 8)], [("tally", tally)])
 
     @functools.lru_cache(maxsize=None)
     def write_file(self, rota, places):
