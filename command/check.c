@@ -26,7 +26,7 @@ static void tell_json(const input *rota, const refusal *why)
 static void tell(const input *rota, const refusal *why)
 {
     uint64_t advised = 0; /* bit c is set if the advice for code c was given */
-    printf("rota %s of %zu items: accepted\n", rota->text ? "text" : "file", rota->n);
+    printf("rota %s of %zu item%s: accepted\n", rota->text ? "text" : "file", rota->n, rota->n == 1 ? "" : "s");
     for (size_t i = 0; i < QUESTIONS; i++) {
         char words[WORDS_ROOM] = "done";
         if (why[i].code != ROTA_DONE) {

@@ -1,6 +1,5 @@
 #include "convert.h"
 
-#include <inttypes.h>
 #include <stdio.h>
 
 #include "refusals.h"
@@ -32,8 +31,7 @@ int run_new(const call *c, const input *rota)
     if (n < 1 || n > ROTA_MOST_ITEMS) {
         return refuse(c, "", (refusal){.code = ROTA_BAD_N}, "");
     }
-    printf("# %" PRIu64 " items and %" PRIu64 " slots: a line is an item, a character its cell with a slot; "
-           ". closed, o open, C open and a callout\n", n, n);
+    puts("# a line is an item, a character its cell with a slot: . closed, o open, C open and a callout");
     text_write((size_t)n, CLOSED, CLOSED);
     return DONE;
 }

@@ -136,7 +136,7 @@ int given_plan(const call *c, const input *rota, rota_plan *plan)
         return status;
     }
     if (c->slots_count != rota->n) {
-        fprintf(stderr, "rota: %zu slots are wanted, one for each item, and %zu are given\n", rota->n, c->slots_count);
+        fprintf(stderr, "rota: a slot for each item is wanted: %zu, not %zu\n", rota->n, c->slots_count);
         return called_wrongly(c->command);
     }
     memcpy(plan->slots, c->slots, rota->n);

@@ -55,7 +55,7 @@ static int read_cell(const reader *r, size_t slot)
     }
     if (!first && r->items == in->n) {
         tell_place(r);
-        fprintf(stderr, "there are more than %zu lines of cells, and each has %zu cells\n", in->n, in->n);
+        fprintf(stderr, "there are more lines of cells than the %zu that the first one asks for\n", in->n);
         return FAILED;
     }
     if (!first && slot == in->n) {
@@ -90,7 +90,7 @@ static int read_cells(reader *r)
     }
     if (cells < in->n) {
         tell_place(r);
-        fprintf(stderr, "there are %zu cells, and the first line has %zu\n", cells, in->n);
+        fprintf(stderr, "there are fewer cells than in the first line: %zu, not %zu\n", cells, in->n);
         return FAILED;
     }
     in->cells_at[r->items++] = begin;
@@ -142,7 +142,7 @@ int text_read(input *in)
     }
     if (r.items < in->n) {
         tell_place(&r);
-        fprintf(stderr, "there are %zu lines of cells, and each has %zu cells\n", r.items, in->n);
+        fprintf(stderr, "there are fewer lines of cells than the first one asks for: %zu, not %zu\n", r.items, in->n);
         return FAILED;
     }
     return DONE;

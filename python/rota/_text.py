@@ -55,7 +55,7 @@ class _Reader:
         if self.n is None:
             self.n = len(run)
         if len(run) < self.n:
-            raise TextError(number, column + len(run), f"there are {len(run)} cells, and the first line has {self.n}")
+            raise TextError(number, column + len(run), f"there are fewer cells than in the first line: {len(run)}, not {self.n}")
         if line[found.end():found.end() + 1] not in (b"", b"#"):
             raise TextError(number, found.end() + 1, "nothing but a comment may follow the cells")
         self.opens.append(sum(1 << j for j, byte in enumerate(run) if byte in b"oC"))
@@ -71,7 +71,7 @@ class _Reader:
                 raise Refused(Code.BAD_N.value, more=f"line {number} has more than {MOST_ITEMS} cells")
             return
         if len(self.opens) == self.n:
-            raise TextError(number, column, f"there are more than {self.n} lines of cells, and each has {self.n} cells")
+            raise TextError(number, column, f"there are more lines of cells than the {self.n} that the first one asks for")
         if k == self.n:
             raise TextError(number, column, f"there are more cells than the {self.n} of the first line")
 
@@ -89,7 +89,7 @@ def read_text(data: bytes) -> Tuple[List[int], List[int]]:
     if reader.n is None:
         raise Refused(Code.BAD_N.value, more="the text has no line of cells")
     if len(reader.opens) < reader.n:
-        raise TextError(len(lines) + 1, 1, f"there are {len(reader.opens)} lines of cells, and each has {reader.n} cells")
+        raise TextError(len(lines) + 1, 1, f"there are fewer lines of cells than the first one asks for: {len(reader.opens)}, not {reader.n}")
     return reader.opens, reader.callouts
 
 

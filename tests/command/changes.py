@@ -6,17 +6,16 @@ import signal
 
 import cases
 from changing import CELLS, change
+from program import CLOSED
 from reading import MARK, MOST_BYTES
 from reference import EveryCell, Tried
-from rotas import edited, file_of, form, samples, seeded, side_by_side, small, tidy
-from usage_lines import CHANGES, wrongly
+from rotas import T, edited, file_of, form, samples, seeded, side_by_side, small, tidy
+from usage_lines import CHANGES, MISSING, UNWRITTEN, wrongly
 
-T = Tried([3, 7, 6], [1, 0, 4])
 NOBODY = 65534
 MODES = 0o600, 0o640, 0o644, 0o666, 0o755, 0o777
 # Bytes that a change must keep, and the cell of item 1 and slot 2 at the place of the sign @.
 KEPT = MARK + b"# yard \xc3\xa9 \0\r\n\n  Co.  # unit 17 .oC\r\n\too@\t# unit 18\n#ooo\n\n .oC# @ last"
-UNWRITTEN = "rota: can't write to standard output\n"
 
 
 class Place:
@@ -131,6 +130,12 @@ def try_names(command):
         command.same([verb, name], (sorted((path.name, os.readlink(path)) for path in away.iterdir()),), (links,))
     for name in "-", "-x", "--json", " ", "a b", "x" * 255, ".hidden", "yard.txt~":
         Place(command, tidy(T), name).change("close", 1, 0)
+    beside = "yard~", "yard.tmp", "yard.new", ".yard", ".yard.swp", "rota.tmp", "tmp"
+    for name in beside:
+        command.write(name.encode(), name)
+    command.write(tidy(T), "yard")
+    command.same(["close", "yard"], command.run(["close", "yard", "0", "0"]), change("yard", tidy(T), "close", 0, 0)[0])
+    command.same(["close", "yard"], tuple((command.folder / name).read_bytes() for name in beside), tuple(name.encode() for name in beside))
     for name in "-x", "--json", "a b":
         wanted = change(name, tidy(T), "open", 0, 2)[0]
         command.write(tidy(T), name)
@@ -140,8 +145,7 @@ def try_names(command):
 def try_unread(command):
     (command.folder / "nowhere").symlink_to("missing")
     (command.folder / "round").symlink_to("round")
-    missing = "No such file or directory"
-    unread = ("missing", missing), ("nowhere", missing), ("", missing), (".", "Is a directory"), ("round", "Too many levels of symbolic links")
+    unread = ("missing", MISSING), ("nowhere", MISSING), ("", MISSING), (".", "Is a directory"), ("round", "Too many levels of symbolic links")
     for name, why in unread:
         for verb in CHANGES:
             command.expect([verb, name, "0", "0"], ("", f"rota: can't read {name}: {why}\n", 3))
@@ -198,6 +202,11 @@ def try_permissions(command):
                 place.change("open", 1, 0, before=as_nobody)  # it is open already
             closed.folder.chmod(0o777)
             closed.change("close", 1, 0, build=build, before=as_nobody)
+    # where others may add files, but not replace those of somebody else
+    shared = Place(command, tidy(T), mode=0o666)
+    shared.folder.chmod(0o1777)
+    if os.geteuid() == 0:
+        shared.fails("close", 1, 0, "Operation not permitted", before=as_nobody)
     hidden = command.write(tidy(T))
     (command.folder / hidden).chmod(0o200)
     command.expect(["open", hidden, "1", "0"], ("", f"rota: can't read {hidden}: Permission denied\n", 3), before=as_nobody)
@@ -213,7 +222,7 @@ def try_unwritten(command):
             with open("/dev/full", "w") as full:
                 place.expect(["close", place.name(), "1", "0"], (None, UNWRITTEN, 3), after, build, out=full)
             place = Place(command, data)
-            place.expect(["close", place.name(), "1", "0"], ("", UNWRITTEN, 3), after, build, by=("sh", "-c", 'exec "$0" "$@" >&-'))
+            place.expect(["close", place.name(), "1", "0"], ("", UNWRITTEN, 3), after, build, by=CLOSED)
 
 
 def try_all(command):

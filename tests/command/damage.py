@@ -8,13 +8,11 @@ import re
 
 import cases
 from reading import MARK, MOST_BYTES, Unread, rota_in
-from reference import MOST_TRIED, EveryCell, Refused, Tried
-from rotas import edited, file_of, small, tidy, written
-from usage_lines import USAGE
+from reference import MOST_TRIED, EveryCell, Refused
+from rotas import T, edited, file_of, small, tidy, written
+from usage_lines import LONG, USAGE
 from wording import Ask
 
-T = Tried([3, 7, 6], [1, 0, 4])
-LONG = 2**64 - 1
 SOUND = r"(rota: [^\0]*: refused (9: .*; items? .* short by \d+ slots?|11: .*; the fewest are \d+, the cap is \d+|\d+: .*)\n)?"
 
 
@@ -121,9 +119,9 @@ class Damage:
     def long_texts(self):
         """Long lines, comments in comments, and texts at the bound."""
         wide = b"C" * 64 + b"\n"
-        for data in (b"o" * 100000, b" " * 100000 + b"o", b"#" * 300000, b"o" + b"#" * 300000, b"\n" * 300000 + b"oo", b"oo\n" * 50000, b"o\r" * 50000,
-                     b"#o\n" * 100000 + b"o", wide + b"\n" * 5000 + wide * 63, b"o" + b"\n" * (MOST_BYTES - 1), b"o" + b"\n" * MOST_BYTES,
-                     MARK * 1000, b"\xff" * 5000, b"o\0" * 3):
+        for data in (b"o" * 100000, b" " * 100000 + b"o", b"#" * 300000, b"o" + b"#" * 300000, b"\n" * 300000 + b"oo", b"oo\n" * 50000,
+                     b"o\r" * 50000, b"#o\n" * 100000 + b"o", wide + b"\n" * 5000 + wide * 63, b"o" + b"\n" * (MOST_BYTES - 1),
+                     b"o" + b"\n" * MOST_BYTES, MARK * 1000, b"\xff" * 5000, b"o\0" * 3):
             self.ask(data, 2)
 
     # ---- sheets and arguments
@@ -143,9 +141,9 @@ class Damage:
     def arguments(self):
         """Any words: nothing is found, and the status is one of four."""
         file = self.command.write(tidy(T))
-        words = [file, file, file, "-", "missing", "0", "1", "2", "/", "--", "--json", "--sheet", "--from", "--most", "--cap", "--fewest", "--sheet=-",
-                 f"--sheet={file}", "--cap=1", "--from=1", "--most=2", "--help", "--x", "", "-1", "64", str(LONG), str(LONG + 1), "=", "--=", "%s%n",
-                 "\xe9", "x" * 3000]
+        words = [file, file, file, "-", "missing", "0", "1", "2", "/", "--", "--json", "--sheet", "--from", "--most", "--cap", "--fewest",
+                 "--sheet=-", f"--sheet={file}", "--cap=1", "--from=1", "--most=2", "--help", "--x", "", "-1", "64", str(LONG), str(LONG + 1), "=", "--=",
+                 "%s%n", "\xe9", "x" * 3000]
         for k in range(200):
             name = self.source.choice([*USAGE, *USAGE, "help", "--help", "--version", "", "x"])
             chosen = self.source.choices(words, k=self.source.choice((0, 1, 2, 3, 4, 6, 70 if k % 10 == 0 else 5)))

@@ -5,7 +5,7 @@ import xml.etree.ElementTree as ElementTree
 import cases
 from grid import looks
 from reference import EveryCell, Tried, rota_of
-from rotas import file_of, form, samples, seeded, side_by_side
+from rotas import ALL_LOOKS, T, file_of, form, samples, seeded, side_by_side
 from wording import Ask, figure_lines
 
 SVG = "{http://www.w3.org/2000/svg}"
@@ -43,7 +43,7 @@ class Picture:
         rows = [int((float(e.get("y")) - top) // side) for e in self.texts if "".join(e.itertext()) == "!"]
         return sorted(row for row in rows if 0 <= row < n)
 
-    def headed(self, left, top, side, n):
+    def headed(self, left, top, side):
         """The slots with their number above their column, and the items with theirs left of their row."""
         placed = [("".join(e.itertext()).strip(), float(e.get("x", "0")), float(e.get("y", "0"))) for e in self.texts]
         slots = [int((x - left) // side) for text, x, y in placed if text.isdigit() and y <= top and text == str(int((x - left) // side))]
@@ -109,15 +109,14 @@ def try_picture(command, rota, data, piped):
             every = set(range(rota.n))
             command.same(words, (picture.lattice() is not None,), (True,), data)
             left, top, side = picture.lattice()
-            slots, items = picture.headed(left, top, side, rota.n)
+            slots, items = picture.headed(left, top, side)
             command.same(words, (every - set(slots), every - set(items)), (set(), set()), data)
             command.same(words, (picture.short_rows(top, side, rota.n),), (rota.short[0] if rota.first is None else [],), data)
 
 
 def rotas():
     source = seeded("draw")
-    yield from (Tried([3, 7, 6], [1, 0, 4]), Tried([1, 7, 6, 15], [0, 3, 4, 14]), Tried([1]), Tried([1], [1]), Tried([0]), Tried([0, 3], [0, 3]))
-    yield rota_of([0] * 64)
+    yield from (T, ALL_LOOKS, Tried([1]), Tried([1], [1]), Tried([0]), Tried([0, 3], [0, 3]), rota_of([0] * 64))
     yield from samples().values()
     for n in 8, 11, 20, 21, 33, 64:
         yield side_by_side(source, n)

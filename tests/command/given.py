@@ -1,12 +1,11 @@
 """Given plans: as slots, as a printed line with its stroke, as a sheet; and those that are none."""
 from reading import MARK, MOST_BYTES, Unread, plan_in
-from reference import EveryCell, Tried, rota_of
-from rotas import file_of, form, seeded, side_by_side, small, tidy
+from reference import EveryCell, Tried
+from rotas import T, file_of, form, seeded, side_by_side, small, tidy
 from usage_lines import no_number, wrongly
 from wording import Ask, plan_line, sheet_of
 
 NAMES = "next", "number", "sheet"
-T = [3, 7, 6], [1, 0, 4]
 SHEET = b"IT SL C\n0 0 C\n1 2\n2 1\n"
 
 
@@ -20,7 +19,7 @@ def ask_sheet(command, name, data, sheet, as_json=False, piped="", rota=None):
     """A sheet; piped says which of the two is at standard input."""
     file = "-" if piped == "file" else command.write(data)
     page = "-" if piped == "sheet" else command.write(sheet)
-    rota = rota or rota_of(*T)
+    rota = rota or T
     try:
         wanted = Ask(name, *plan_in(sheet, rota.n)).wanted("standard input" if file == "-" else file, data, as_json, rota)
     except Unread as no:
@@ -32,10 +31,10 @@ def ask_sheet(command, name, data, sheet, as_json=False, piped="", rota=None):
 # ---- slots
 
 def try_slots(command):
-    data, plans = tidy(Tried(*T)), Tried(*T).plans
+    data = tidy(T)
     for name in NAMES:
-        for plan in plans:
-            printed = plan_line(Tried(*T), plan).split()
+        for plan in T.plans:
+            printed = plan_line(T, plan).split()
             slots = printed[:3]
             for words in (slots, printed, ["--", *slots], ["--", *printed], [*slots, "/"], [*slots, "/", "x", "99", "", "-", "/"],
                           ["00" + slots[0], "0" * 30 + slots[1], slots[2]]):
@@ -52,11 +51,11 @@ def try_number_of_slots(command):
     """The rota is read first, and what is wrong with it comes first."""
     whole = EveryCell(64)
     for name in NAMES:
-        for rota, numbers in (Tried(*T), (1, 2, 4, 63, 64, 65, 66, 200)), (Tried([1]), (2, 64, 65)), (whole, (1, 63, 65, 1000)):
+        for rota, numbers in (T, (1, 2, 4, 63, 64, 65, 66, 200)), (Tried([1]), (2, 64, 65)), (whole, (1, 63, 65, 1000)):
             data = tidy(rota) if rota.n < 64 else file_of(rota)
             file = command.write(data)
             for number in numbers:
-                words = wrongly(name, f"{rota.n} slots are wanted, one for each item, and {number} are given")
+                words = wrongly(name, f"a slot for each item is wanted: {rota.n}, not {number}")
                 command.expect([name, file, *["0"] * number], words)
                 command.expect([name, file, *["0"] * number, "/", "1", "--json"], words)
         ask_slots(command, name, file_of(whole), map(str, reversed(whole.first)), list(reversed(whole.first)))
@@ -67,7 +66,7 @@ def try_number_of_slots(command):
 def try_no_slots(command):
     """Nothing is read: there is no such file."""
     for name in NAMES:
-        for word in "64", "100", "+1", "1x", "", " 1", "1 ", "0x1", "1.", "2/2", "1,2", "4294967296", "18446744073709551616", "9" * 50:
+        for word in "64", "100", "+1", "1x", "", " 1", "1 ", "0x1", "1.", "2/2", "1,2", "-", "4294967296", "18446744073709551616", "9" * 50:
             command.expect([name, "missing", "0", word, "2"], wrongly(name, no_number(word, 63)))
             command.expect([name, "missing", word], wrongly(name, no_number(word, 63)))
         command.expect([name, "missing", "--", "0", "-1", "2"], wrongly(name, no_number("-1", 63)))
@@ -109,7 +108,7 @@ def wrong_sheets():
 
 
 def try_wrong_sheets(command):
-    data = tidy(Tried(*T))
+    data = tidy(T)
     for k, sheet in enumerate(wrong_sheets()):
         ask_sheet(command, NAMES[k % 3], data, sheet, k % 2 == 0, ("", "", "sheet")[k % 3])
     source = seeded("wrong sheets")
@@ -120,7 +119,7 @@ def try_wrong_sheets(command):
 
 
 def try_unread_sheets(command):
-    file = command.write(tidy(Tried(*T)))
+    file = command.write(tidy(T))
     for name in NAMES:
         command.expect([name, file, "--sheet", "missing"], ("", "rota: can't read missing: No such file or directory\n", 3))
         command.expect([name, file, "--sheet=."], ("", "rota: can't read .: Is a directory\n", 3))

@@ -29,7 +29,7 @@ def coloured(look):
     return f"\x1b[{COLOURS[look]}m{look}\x1b[0m"
 
 
-def plain_grid(rows, items, paint=plain):
+def grid_of(rows, items, paint=plain):
     """Headings, a line for each item, and the legend; items are the short ones."""
     n = len(rows)
     apart = " " if n <= 32 else ""

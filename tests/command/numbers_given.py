@@ -1,12 +1,10 @@
 """Numbers as arguments and as values of options: at their bounds, with zeros before them, and those that are none."""
-from reference import Tried
-from rotas import tidy
-from usage_lines import CHANGES, no_number, wrongly
+from rotas import T, tidy
+from usage_lines import CHANGES, LONG, no_number, wrongly
 from wording import TEXTS, Ask
 
-T = Tried([3, 7, 6], [1, 0, 4])
-WORD, LONG = 2**32 - 1, 2**64 - 1
-NONE = ["", " ", "x", "1x", "x1", " 1", "1 ", "\t1", "1\n", "0x1", "1e3", "1.", "1.0", "1,000", "+1", "1_0", "\u0661", "0b1", "9" * 40]
+WORD = 2**32 - 1
+NONE = ["", "-", " ", "x", "1x", "x1", " 1", "1 ", "\t1", "1\n", "0x1", "1e3", "1.", "1.0", "1,000", "+1", "1_0", "\u0661", "0b1", "9" * 40]
 
 
 def beyond(most):
@@ -15,7 +13,9 @@ def beyond(most):
 
 
 def within(most):
-    return ["0", "1", "00", "0001", "0" * 100 + "2", "3", str(most), f"0{most}"]
+    """Numbers that would be small ones if some of their bits were lost, among others."""
+    wide = [str(k) for k in (2**8, 2**16, 2**32, 2**32 + 1, 2**63, most) if k <= most]
+    return ["0", "1", "00", "0001", "0" * 100 + "2", "3", f"0{most}"] + wide
 
 
 def try_arguments(command):
@@ -55,12 +55,11 @@ def try_values(command):
 
 
 def try_new(command):
-    def heading(n):
-        return f"# {n} items and {n} slots: a line is an item, a character its cell with a slot; . closed, o open, C open and a callout\n"
+    heading = "# a line is an item, a character its cell with a slot: . closed, o open, C open and a callout\n"
     for text in "1", "2", "0003", "10", "31", "63", "64", "0064":
         n = int(text)
-        command.expect(["new", text], (heading(n) + ("." * n + "\n") * n, "", 0))
-    for text in "0", "00", "65", "256", "4294967297", str(LONG):
+        command.expect(["new", text], (heading + ("." * n + "\n") * n, "", 0))
+    for text in "0", "00", "65", "256", "257", "4294967297", str(LONG):
         command.expect(["new", text], ("", f"rota: refused 1: {TEXTS[1]}\n", 1))
     for text in beyond(LONG):
         command.expect(["new", text], wrongly("new", no_number(bytes_of(text), LONG)))

@@ -12,6 +12,10 @@ SECONDS = 60  # that a run may take
 SHOWN = 600  # characters of an output that is shown
 
 
+# A shell that runs a program with standard output closed.
+CLOSED = "sh", "-c", 'exec "$0" "$@" >&-'
+
+
 class Different(Exception):
     """What was given is not what was wanted."""
 
@@ -72,9 +76,13 @@ class Command:
             pairs = "".join(f"\n  gave   {around(a, b)}\n  wanted {around(b, a)}" for a, b in zip(given, wanted) if a != b)
             raise Different(f"command: {self.part}: rota {self.shown(words)}{where}{pairs}")
 
+    def turn(self):
+        """The builds that are run now."""
+        return (0, 1) if self.made % self.every == 0 else (0,)
+
     def expect(self, words, wanted, data=None, shown=None, **how):
         """Runs the ordinary build, of `every` runs one with the sanitized build too, and compares."""
-        for build in (0, 1) if self.made % self.every == 0 else (0,):
+        for build in self.turn():
             self.same(words, self.run(words, data, build, **how), wanted, data if shown is None else shown)
 
     def ask(self, question, data, as_json=False, piped=False, rota=None, name=None):

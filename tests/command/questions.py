@@ -6,10 +6,9 @@ import cases
 from program import ENVIRONMENT, SECONDS, characters
 from reading import rota_in
 from reference import EveryCell, Searched, rota_of
-from rotas import WORKED, file_of, form, samples, seeded, side_by_side, small
+from rotas import T, WORKED, file_of, form, samples, seeded, side_by_side, small, yards
+from usage_lines import LONG
 from wording import Ask, list_answer
-
-GREATEST = 2**64 - 1
 
 
 class Told(Ask):
@@ -34,13 +33,13 @@ def with_numbers(source, rota):
     near = max(plans - 1, 0), plans, plans + 1
     yield Ask("cell", source.randrange(n + 1), source.randrange(n + 1))
     yield Ask("cell", source.randrange(n), source.randrange(n))
-    yield Ask("at", source.choice((0, source.randrange(plans + 1), *near, GREATEST)))
-    yield Ask("price", source.choice((0, 1, 49, 50, 100, 499, 500, 9999, 10000, 10001, GREATEST)))
+    yield Ask("at", source.choice((0, source.randrange(plans + 1), *near, LONG)))
+    yield Ask("price", source.choice((0, 1, 49, 50, 100, 499, 500, 9999, 10000, 10001, LONG)))
     fewest = rota.callouts_of(rota.best) if rota.best else 0
     yield Ask("fewest", cap=source.choice((0, max(fewest - 1, 0), fewest, fewest + 1, 2**32 - 1)))
     most = source.choice((0, 1, 2, plans, plans + 1))
     yield Ask("list", most=min(most, 30))
-    yield Ask("list", start=source.choice((0, source.randrange(plans + 1), *near, GREATEST)), most=source.choice((0, 1, 2, 20)))
+    yield Ask("list", start=source.choice((0, source.randrange(plans + 1), *near, LONG)), most=source.choice((0, 1, 2, 20)))
 
 
 def given(source, rota):
@@ -55,10 +54,10 @@ def given(source, rota):
         yield Ask(name, *source.choice(plans[-2:]))
 
 
-def ask_all(command, source, rota, questions):
+def ask_all(command, source, rota, questions, data=None):
     for question in questions:
         as_json = source.random() < 0.5 and question.command not in ("text", "file")
-        command.ask(question, form(source, rota), as_json, source.random() < 0.3, rota)
+        command.ask(question, data or form(source, rota), as_json, source.random() < 0.3, rota)
 
 
 def all_of(source, rota):
@@ -88,7 +87,7 @@ def few(question):
 
 
 def try_worked(command):
-    """The rotas of the rules, and the samples."""
+    """The rotas of the rules, the samples and the yards."""
     source = seeded("worked")
     for tables in WORKED:
         rota = rota_of(*tables)
@@ -96,6 +95,11 @@ def try_worked(command):
     for rota in samples().values():
         ask_all(command, source, rota, map(few, all_of(source, rota)))
         ask_all(command, source, rota, map(few, simple()))
+    for data in yards():
+        rota = rota_in(data)
+        # the plans of 64 items are too many sets of slots for the reference
+        questions = all_of(source, rota) if rota.n <= 20 else [Ask(name) for name in ("text", "file", "count", "grade")] + [Ask("at", 0), Ask("price", 340)]
+        ask_all(command, source, rota, map(few, questions), data)
 
 
 def try_large(command):
@@ -131,7 +135,7 @@ def try_listings(command):
 
 def try_parts(command):
     """Standard input that comes in three parts."""
-    data = file_of(rota_of([3, 7, 6], [1, 0, 4]))
+    data = file_of(T)
     for build in command.builds:
         with subprocess.Popen([build, "first", "-"], bufsize=0, env=ENVIRONMENT, stdin=subprocess.PIPE, stdout=subprocess.PIPE,
                               stderr=subprocess.PIPE) as running:

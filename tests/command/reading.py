@@ -57,7 +57,7 @@ def rows_of(data):
         raise Refused(1, more="; the text has no line of cells")
     n = len(rows[0][1])
     if len(rows) < n:
-        raise Unread(f"line {len(lines) + 1}, column 1: there are {len(rows)} lines of cells, and each has {n} cells")
+        raise Unread(f"line {len(lines) + 1}, column 1: there are fewer lines of cells than the first one asks for: {len(rows)}, not {n}")
     return rows
 
 
@@ -74,13 +74,13 @@ def cells_of(line, number, before, n):
             name = f"'{chr(byte)}'" if 0x21 <= byte <= 0x7e else f"byte {byte:02x}"
             wrong(k, f"{name} is no cell; a cell is . (closed), o (open) or C (open and a callout)")
         if before == n:
-            wrong(k, f"there are more than {n} lines of cells, and each has {n} cells")
+            wrong(k, f"there are more lines of cells than the {n} that the first one asks for")
         if k == n:
             wrong(k, f"there are more cells than the {n} of the first line")
         if k == 64:
             raise Refused(1, more=f"; line {number} has more than 64 cells")
     if cells and n is not None and len(cells) < n:
-        wrong(len(cells), f"there are {len(cells)} cells, and the first line has {n}")
+        wrong(len(cells), f"there are fewer cells than in the first line: {len(cells)}, not {n}")
     if found[4] not in (b"", b"#"):
         wrong(found.start(4) - blanks, "nothing but a comment may follow the cells")
     return blanks, cells

@@ -1,11 +1,14 @@
 """Rotas to ask about, as files and as texts, good and damaged."""
 import functools
 import random
+from pathlib import Path
 
 import cases
 from reading import MARK, text_of
-from reference import rota_of
+from reference import Tried, rota_of
 from samples import ROTAS, slots_of
+
+EXAMPLES = Path(__file__).resolve().parents[2] / "examples"
 
 # Open words of docs/RULES.md, and callout words.
 WORKED = [
@@ -15,6 +18,12 @@ WORKED = [
     ([120, 115, 124, 63, 95, 111, 127],), ([120, 115, 124, 63, 95, 111, 127, 255], [0, 0, 0, 0, 0, 0, 0, 128]), ([120, 115, 126, 87, 95, 111, 127],),
     ([128, 120, 115, 126, 87, 95, 111, 127],), ([127] * 7, [127] * 7), ([127] * 7 + [255],),
 ]
+
+
+T = Tried([3, 7, 6], [1, 0, 4])
+
+# Every look of a cell stands in it: items 1 and 2 may change slots 1 and 2, and no plan uses any other open cell of items 1 to 3 but the last.
+ALL_LOOKS = Tried([1, 7, 6, 15], [0, 5, 4, 14])
 
 
 def side_by_side(source, n, broken=False):
@@ -46,6 +55,11 @@ def small(source, most=6):
 @functools.lru_cache(maxsize=None)
 def samples():
     return {name: rota_of(*tables) for name, tables in ROTAS.items()}
+
+
+def yards():
+    """The texts of examples/."""
+    return [path.read_bytes() for path in sorted(EXAMPLES.glob("*.txt"))]
 
 
 # ---- their forms

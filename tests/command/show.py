@@ -1,15 +1,11 @@
 """The grid: of every size, with and without a plan, and its colours in a terminal."""
 import re
 
-from grid import COLOURS, coloured, looks, plain_grid
+from grid import COLOURS, coloured, grid_of, looks
 from reference import EveryCell, Tried, rota_of
-from rotas import file_of, form, samples, seeded, side_by_side, tidy
+from rotas import ALL_LOOKS, T, file_of, form, samples, seeded, side_by_side, tidy
 from wording import Ask, figure_lines
 
-T = Tried([3, 7, 6], [1, 0, 4])
-
-# Every look stands in it: item 0 has slot 0 alone, and the callouts of slots 0 to 2 are of each kind.
-ALL_LOOKS = Tried([1, 7, 6, 15], [0, 3, 4, 14])
 EXAMPLE = """\
       slot
 item  0 1 2
@@ -26,7 +22,6 @@ plans            3
 fewest callouts  1
 grade            3
 """
-
 
 # What the environment of a terminal has, and whether there is colour.
 TERMINALS = [
@@ -57,11 +52,11 @@ def try_grids(command):
         seen.update(*looks(rota))
         for as_json in False, True:
             command.ask(Ask("show"), form(source, rota), as_json, k % 3 == 0, rota)
-    assert seen == set(COLOURS) - {"!"}
+    assert seen == set().union(*looks(ALL_LOOKS)) == set(COLOURS) - {"!"}
 
 
 def painted(rota):
-    return plain_grid(looks(rota), [] if rota.first else rota.short[0], coloured) + "\n" + figure_lines(rota)
+    return grid_of(looks(rota), [] if rota.first else rota.short[0], coloured) + "\n" + figure_lines(rota)
 
 
 def try_colours(command):

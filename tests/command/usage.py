@@ -2,15 +2,11 @@
 import os
 import re
 
+from program import CLOSED
 from reference import Tried
-from rotas import file_of, samples, tidy
-from usage_lines import CHANGES, GENERAL, USAGE, WITHOUT_JSON, wrongly
+from rotas import T, file_of, samples, tidy
+from usage_lines import CHANGES, GENERAL, LONG, MISSING, UNWRITTEN, USAGE, WITHOUT_JSON, wrongly
 from wording import VERSION, Ask
-
-T = Tried([3, 7, 6], [1, 0, 4])
-UNWRITTEN = "rota: can't write to standard output\n"
-MISSING = "No such file or directory"
-CLOSED = "sh", "-c", 'exec "$0" "$@" >&-'
 
 # The arguments after FILE that a command needs.
 NEEDED = {"at": ["0"], "price": ["100"], "next": ["0", "1", "2"], "number": ["0", "1", "2"], **dict.fromkeys(("cell", *CHANGES), ["0", "0"])}
@@ -26,7 +22,7 @@ def asked(name, file):
 
 def expect_wrong(command, name, words, **how):
     """The words are the command's own; the usage line is not. There is no file to be read."""
-    for build in (0, 1) if command.made % command.every == 0 else (0,):
+    for build in command.turn():
         out, err, status = command.run(words, build=build, **how)
         found = re.fullmatch(r"rota: [^\n]+\n(usage: .*)\n", err, re.DOTALL)
         command.same(words, (out, found and found[1], status), ("", f"usage: {USAGE[name]}", 2))
@@ -113,7 +109,8 @@ def try_order(command):
     command.write(data, "--json")
     command.expect(["first", "--", "--json"], Ask("first").wanted("--json", data))
     command.expect(["first", "--json", "--", "--json"], Ask("first").wanted("--json", data, True))
-    command.expect(["first", "--", "--"], ("", f"rota: can't read --: {MISSING}\n", 3))
+    for name in "--", "--help", "-x":
+        command.expect(["first", "--", name], ("", f"rota: can't read {name}: {MISSING}\n", 3))
 
 
 # ---- help and version
@@ -160,7 +157,7 @@ def try_unwritten(command):
             command.expect(words, (None, UNWRITTEN, 3), out=full)
         command.expect(words, ("", UNWRITTEN, 3), by=CLOSED)
     with open("/dev/full", "w") as full:
-        command.expect(["list", long, f"--most={2**64 - 1}"], (None, UNWRITTEN, 3), out=full)  # not all of them are tried
+        command.expect(["list", long, f"--most={LONG}"], (None, UNWRITTEN, 3), out=full)  # not all of them are tried
         for words in ["first", short], ["price", file, "0"], ["show", "missing"], ["show"], ["next", file, "1"]:
             out, err, status = command.run(words)
             command.expect(words, (None, err, status), out=full)

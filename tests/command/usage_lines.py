@@ -1,4 +1,4 @@
-"""The usage line of each command, and what is said to somebody who calls it wrongly."""
+"""The usage line of each command, and what is said where it is called wrongly or something can't be read or written."""
 
 USAGE = {line.split()[1]: line for line in """
 rota show FILE [--json]
@@ -28,6 +28,9 @@ rota new N
 GENERAL = "rota COMMAND FILE ... [OPTIONS]"
 CHANGES = "open", "close", "callout"
 WITHOUT_JSON = "draw", "text", "file", "new"
+LONG = 2**64 - 1  # the greatest number that may be given
+MISSING = "No such file or directory"
+UNWRITTEN = "rota: can't write to standard output\n"
 
 
 def wrongly(name, words):

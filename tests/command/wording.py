@@ -5,7 +5,7 @@ import re
 from pathlib import Path
 
 import cases
-from grid import figures, looks, plain_grid
+from grid import figures, grid_of, looks
 from reading import Unread, rota_in, text_of
 from reference import Refused
 from samples import slots_of
@@ -126,13 +126,13 @@ def price(rota, vehicles):
 
 def show(rota):
     items, shortage = rota.short if rota.first is None else ([], 0)
-    values = {"count": unless_refused(rota.count_plans)[0], "fewest": None if rota.first is None else rota.callouts_of(rota.best)}
+    count = unless_refused(rota.count_plans)[0]
     record = {
         "n": rota.n, "open": slots_record(rota.opens), "callout": slots_record(rota.callouts), "usable": slots_record(rota.usable),
-        "first": rota.first, "count": None if values["count"] is None else str(values["count"]), "fewest": values["fewest"],
+        "first": rota.first, "count": None if count is None else str(count), "fewest": rota.callouts_of(rota.best) if rota.first else None,
         "grade": unless_refused(rota.grade)[0], "items": items, "shortage": shortage,
     }
-    return plain_grid(looks(rota), items) + "\n" + figure_lines(rota), record
+    return grid_of(looks(rota), items) + "\n" + figure_lines(rota), record
 
 
 def figure_lines(rota):
@@ -144,7 +144,7 @@ def figure_lines(rota):
 
 
 def check(rota, form):
-    lines, records, advised = [f"rota {form} of {rota.n} items: accepted"], [], set()
+    lines, records, advised = [f"rota {form} of {rota.n} item{'s'[:rota.n > 1]}: accepted"], [], set()
     for of, call in ("first plan", rota.first_plan), ("count", rota.count_plans), ("grade", rota.grade):
         no = unless_refused(call)[1]
         lines.append(f"{of}: {refusal(no) if no else 'done'}")

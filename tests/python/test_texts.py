@@ -78,7 +78,7 @@ class Command(unittest.TestCase):
             self.compare(text)
 
     def test_random(self):
-        kinds = {"accepted": 0, "is no cell": 0, "lines of cells, and each": 0, "more than": 0, "more cells than": 0, "the first line has": 0,
+        kinds = {"accepted": 0, "is no cell": 0, "fewer lines of cells": 0, "more lines of cells": 0, "more cells than": 0, "fewer cells than": 0,
                  "nothing but a comment": 0, "no line of cells": 0, "more than 64 cells": 0}
         for text in texts.some(400):
             words = self.compare(text)
