@@ -4,7 +4,7 @@
 #   make command      builds the command alone, BUILD/rota
 #   make install      to PREFIX; DESTDIR is put before every path, to make a package
 #   make uninstall    removes the files of make install with the same PREFIX and DESTDIR; folders stay
-#   make check        tests what is installed
+#   make check        tests what would be installed, and the Python module
 #   make clean        removes what was made under BUILD
 #
 # LIBRARY is the folder of librota.a. CC, CPPFLAGS, CFLAGS and LDFLAGS are as ever; with other ones take another BUILD, or make clean first:

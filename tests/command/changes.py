@@ -1,18 +1,16 @@
 """Changes of files and texts: what is said, which bytes they leave, and that nothing changes where one fails."""
 import os
-import resource
 import shutil
-import signal
 
 import cases
 from changing import CELLS, change
+from failing import FLUSH, MODE, RENAME, as_nobody, limited, without
 from program import CLOSED
 from reading import MARK, MOST_BYTES
 from reference import EveryCell, Tried
 from rotas import T, edited, file_of, form, samples, seeded, side_by_side, small, tidy
 from usage_lines import CHANGES, MISSING, UNWRITTEN, wrongly
 
-NOBODY = 65534
 MODES = 0o600, 0o640, 0o644, 0o666, 0o755, 0o777
 # Bytes that a change must keep, and the cell of item 1 and slot 2 at the place of the sign @.
 KEPT = MARK + b"# yard \xc3\xa9 \0\r\n\n  Co.  # unit 17 .oC\r\n\too@\t# unit 18\n#ooo\n\n .oC# @ last"
@@ -157,21 +155,6 @@ def try_unread(command):
 
 # ---- what fails
 
-def limited(most, ignored=True):
-    """No file may grow beyond so many bytes; a signal tells of it, unless it is ignored."""
-    def before():
-        signal.signal(signal.SIGXFSZ, signal.SIG_IGN if ignored else signal.SIG_DFL)
-        resource.setrlimit(resource.RLIMIT_FSIZE, (most, most))
-    return before
-
-
-def as_nobody():
-    if os.geteuid() == 0:
-        os.setgroups([])
-        os.setgid(NOBODY)
-        os.setuid(NOBODY)
-
-
 def try_limits(command):
     for rota in T, side_by_side(seeded("limits"), 64):
         for data in tidy(rota), file_of(rota):
@@ -179,6 +162,14 @@ def try_limits(command):
                 place = Place(command, data)
                 place.fails("close", 0, first_open(rota), "File too large", build, before=limited(most, most % 2 == 0))
             Place(command, data).change("close", 0, first_open(rota), before=limited(len(data)))
+
+
+def try_calls(command):
+    """Nothing changes unless the new file has its permission bits, is flushed to disk, and is renamed."""
+    for numbers in FLUSH, RENAME, MODE:
+        for build in 0, 1:
+            for data in tidy(T), file_of(T):
+                Place(command, data).fails("close", 1, 0, "Input/output error", build, before=without(numbers))
 
 
 def first_open(rota):
@@ -233,5 +224,6 @@ def try_all(command):
     try_names(command)
     try_unread(command)
     try_limits(command)
+    try_calls(command)
     try_permissions(command)
     try_unwritten(command)

@@ -142,8 +142,8 @@ class Damage:
         """Any words: nothing is found, and the status is one of four."""
         file = self.command.write(tidy(T))
         words = [file, file, file, "-", "missing", "0", "1", "2", "/", "--", "--json", "--sheet", "--from", "--most", "--cap", "--fewest",
-                 "--sheet=-", f"--sheet={file}", "--cap=1", "--from=1", "--most=2", "--help", "--x", "", "-1", "64", str(LONG), str(LONG + 1), "=", "--=",
-                 "%s%n", "\xe9", "x" * 3000]
+                 "--sheet=-", f"--sheet={file}", "--cap=1", "--from=1", "--most=2", "--help", "--x", "", "-1", "64", str(LONG),
+                 str(LONG + 1), "=", "--=", "%s%n", "\xe9", "x" * 3000]
         for k in range(200):
             name = self.source.choice([*USAGE, *USAGE, "help", "--help", "--version", "", "x"])
             chosen = self.source.choices(words, k=self.source.choice((0, 1, 2, 3, 4, 6, 70 if k % 10 == 0 else 5)))

@@ -98,7 +98,7 @@ def try_worked(command):
     for data in yards():
         rota = rota_in(data)
         # the plans of 64 items are too many sets of slots for the reference
-        questions = all_of(source, rota) if rota.n <= 20 else [Ask(name) for name in ("text", "file", "count", "grade")] + [Ask("at", 0), Ask("price", 340)]
+        questions = all_of(source, rota) if rota.n <= 20 else [Ask("text"), Ask("file"), Ask("count"), Ask("grade"), Ask("at", 0), Ask("price", 340)]
         ask_all(command, source, rota, map(few, questions), data)
 
 
