@@ -9,7 +9,7 @@
 #
 # LIBRARY is the folder of librota.a. CC, CPPFLAGS, CFLAGS and LDFLAGS are as ever; with other ones take another BUILD, or make clean first:
 #
-#   make BUILD=/tmp/sanitized CFLAGS='-g -O1 -fsanitize=address,undefined -fno-sanitize-recover=all' command
+#   make BUILD=target/sanitized CFLAGS='-g -O1 -fsanitize=address,undefined -fno-sanitize-recover=all' command
 
 LIBRARY ?= target/staticlib
 BUILD ?= target/product

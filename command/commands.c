@@ -33,7 +33,7 @@ const command COMMANDS[] = {
      "Shows the rota as a grid, a line for each item and a character for each slot,\n"
      "and below it the number of complete plans, the fewest callouts and the grade.\n"
      "If there is no plan, the items that are short are marked and named. On a\n"
-     "terminal the grid has colours, unless NO_COLOR is set.\n"},
+     "terminal the grid has colours, unless NO_COLOR is set and not empty.\n"},
     {"draw", "rota draw FILE", TAKES_FILE, 0, 0, run_draw, "the same as an SVG picture",
      "Writes what show shows as an SVG picture, to be looked at or printed.\n"},
     {"check", "rota check FILE [--json]", TAKES_FILE | ADVISES, 0, JSON, run_check, "what is refused, and what to do",

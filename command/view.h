@@ -6,6 +6,7 @@
 #include <stdint.h>
 
 #include "input.h"
+#include "refusals.h"
 #include "rota.h"
 
 typedef struct {
@@ -30,10 +31,10 @@ typedef enum {
 } look;
 
 /* A line below the grid; without a plan there is one, and its label is "no plan". */
-enum { FIGURES = 3, FIGURE_ROOM = 512 };
+enum { FIGURES = 3 };
 typedef struct {
     const char *label;
-    char value[FIGURE_ROOM];
+    char value[WORDS_ROOM];
 } figure;
 
 view view_of(const input *rota);
