@@ -50,16 +50,17 @@ all: $(BUILD)/$(SHARED) command $(SECTIONS:%=$(BUILD)/pages/rota.%)
 
 command: $(BUILD)/rota
 
-# Made if it is missing. Whether it is up to date is for rt to say.
+# Made if it is missing. Whether it is up to date is for tools/staticlib to say.
 target/staticlib/librota.a:
-	rt staticlib rota
+	tools/staticlib
 
+# The two short names are further names of the same file, since rt ci refuses symbolic links in a checkout. Installed they are links.
 $(BUILD)/$(SHARED): $(ARCHIVE) install/rota.map
 	@mkdir -p $(@D)
 	$(CC) -shared $(LDFLAGS) -Wl,-soname,$(SONAME) -Wl,--version-script,install/rota.map -Wl,-z,defs,-z,text,-z,relro,-z,now,-z,noexecstack \
 		-Wl,--whole-archive $(ARCHIVE) -Wl,--no-whole-archive -o $@
-	ln -sf $(SHARED) $(@D)/$(SONAME)
-	ln -sf $(SONAME) $(@D)/librota.so
+	ln -f $(@D)/$(SHARED) $(@D)/$(SONAME)
+	ln -f $(@D)/$(SHARED) $(@D)/librota.so
 
 $(BUILD)/rota: $(OBJECTS) $(ARCHIVE)
 	$(CC) $(CFLAGS) $(LDFLAGS) $^ -o $@

@@ -1,6 +1,6 @@
 /*
  * The download program: a rota file's first plan, the next one, and the plan with the fewest callouts. The usage text below says
- * what it writes. To build it, in the repository's root, after rt staticlib rota:
+ * what it writes. To build it, in the repository's root, after tools/staticlib:
  *
  *     gcc -Iinclude examples/download.c target/staticlib/librota.a -o download
  *

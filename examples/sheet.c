@@ -1,6 +1,6 @@
 /*
  * The sheet program: the plan sheet of a rota file. The usage text below says what it writes. To build it, in the repository's
- * root, after rt staticlib rota:
+ * root, after tools/staticlib:
  *
  *     gcc -Iinclude examples/sheet.c target/staticlib/librota.a -o sheet
  *

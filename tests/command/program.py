@@ -14,6 +14,9 @@ SHOWN = 600  # characters of an output that is shown
 
 # A shell that runs a program with standard output closed.
 CLOSED = "sh", "-c", 'exec "$0" "$@" >&-'
+# A shell that runs a program, writes a mark behind its output and ends with its status.
+MARK = b"\4"
+MARKED = "sh", "-c", '"$0" "$@"; status=$?; printf "\\004"; exit "$status"'
 
 
 class Different(Exception):
@@ -93,20 +96,18 @@ class Command:
         self.expect(question.words(name, *["--json"] * as_json), wanted, data if piped else None, data)
 
     def terminal(self, words, environment, build=0):
-        """(what a terminal is given, standard error, status)."""
+        """(what a terminal is given, standard error, status). Its other end stays open till the mark was read: once that is closed, output that was
+        not read yet can be lost."""
         self.running = words
         signal.alarm(SECONDS)
         ours, its = pty.openpty()
-        with subprocess.Popen([self.builds[build], *words], cwd=self.folder, env={**ENVIRONMENT, **environment}, stdin=subprocess.DEVNULL,
+        given = b""
+        with subprocess.Popen([*MARKED, self.builds[build], *words], cwd=self.folder, env={**ENVIRONMENT, **environment}, stdin=subprocess.DEVNULL,
                               stdout=its, stderr=subprocess.PIPE) as running:
-            os.close(its)
-            given = b""
-            try:
-                while part := os.read(ours, 65536):
-                    given += part
-            except OSError:
-                pass  # the other end is closed
-            os.close(ours)
+            while not given.endswith(MARK):
+                given += os.read(ours, 65536)
             err = running.stderr.read()
+        os.close(its)
+        os.close(ours)
         signal.alarm(0)
-        return characters(given.replace(b"\r\n", b"\n")), characters(err), running.returncode
+        return characters(given[:-len(MARK)].replace(b"\r\n", b"\n")), characters(err), running.returncode

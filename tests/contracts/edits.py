@@ -11,7 +11,6 @@ class BadEdit(Exception):
 class Function:
     file: str
     name: str
-    exported: bool
     first_line: int
     last_line: int
     text: str
@@ -19,6 +18,11 @@ class Function:
     @property
     def contract(self):
         return self.text.partition("\n{\n")[0]
+
+    @property
+    def exported(self):
+        """Whether it is a public call, which crate rota_c exports under its name."""
+        return self.text.startswith("pub fn rota_")
 
     @property
     def place(self):
@@ -40,14 +44,14 @@ class Edit:
     places: tuple
 
 
-FUNCTION = re.compile(r'^(#\[no_mangle\]\n)?((?:pub )?(?:extern "C" )?fn (\w+)\(.*?^\})$', re.M | re.S)
+FUNCTION = re.compile(r'^((?:pub )?(?:extern "C" )?fn (\w+)\(.*?^\})$', re.M | re.S)
 
 
 def functions_in(file, text):
     def line(place):
         return text.count("\n", 0, place) + 1
 
-    return [Function(file, m[3], bool(m[1]), line(m.start()), line(m.end()), m[2]) for m in FUNCTION.finditer(text)]
+    return [Function(file, m[2], line(m.start()), line(m.end()), m[1]) for m in FUNCTION.finditer(text)]
 
 
 def changed(texts, changes):
@@ -101,32 +105,40 @@ def factors(proposition):
     return parts
 
 
+def same_contract(one, other):
+    """Whether two functions are given, ask and promise the same, word for word; how the lines are laid out counts for nothing."""
+    def words(f):
+        return re.sub(r"\(\s+", "(", re.sub(r",?\s+\)", ")", f.contract[f.contract.index("fn "):])).split()
+
+    return words(one) == words(other)
+
+
 def weaker_clauses(clause, number, code):
     """Each factor of a clause, made to hold on success alone and on refusal alone: a label, what it is called, and the clause."""
-    read = re.fullmatch(r"    ensures (\w*) ?\{ λ \w+\. ⌜ (.*) ⌝ \}", re.sub(r"\n *", " ", clause))
+    read = re.fullmatch(r"    ensures ((?:\w+ )?)\{ (.*) \}", re.sub(r"\n *", " ", clause))
     if not read:
         raise BadEdit(f"a clause that can't be read: {clause.strip()}")
-    name, parts = read[1] or str(number), factors(read[2])
+    name, parts = read[1].strip() or str(number), factors(read[2])
     for k, part in enumerate(parts):
         label, words = (f"{name}-{k + 1}", f"{name} part {k + 1}") if len(parts) > 1 else (name, name)
         for way, weaker in ("success", f"({code} ≡ 0 → {part})"), ("refusal", f"(({code} ≡ 0 → ⊥) → {part})"):
             said = " × ".join(parts[:k] + [weaker] + parts[k + 1:])
-            yield f"{label}-{way}", f"clause {words} only on {way}", f"    ensures {read[1]} {{ λ r. ⌜ {said} ⌝ }}"
+            yield f"{label}-{way}", f"clause {words} only on {way}", f"    ensures {read[1]}{{ {said} }}"
 
 
 def weaker_contracts(function, cited):
-    """A call made to ask the impossible of its caller, which the call's field in `ask-nothing` of crate demands must miss; and each
+    """A call made to ask the impossible of its caller, which the call's field in `ask_nothing` of crate demands must miss; and each
     weaker clause, which the definitions `cited` of demands must miss."""
     call = function.name
     head, *clauses = re.split(r"\n(?=    ensures )", function.contract)
-    code = "r" if head.endswith("-> u32") else "r .code"
+    code = "result" if head.endswith("-> u32") else "result.code"
 
     def edit(label, name, lines, places):
         change = function.file, function.contract, "\n".join(lines)
         return Edit(f"{call}-{label}", f"{call}, {name}", function, (change,), tuple(places))
 
-    field = call[len("rota_"):].replace("_", "-")
-    yield edit("requires", "a requires added", [head, "    requires { ⌜ ⊥ ⌝ }", *clauses], [f"ask-nothing.{field}"])
+    field = call[len("rota_"):]
+    yield edit("requires", "a requires added", [head, "    requires { ⊥ }", *clauses], [f"ask_nothing.{field}"])
     for k, clause in enumerate(clauses):
         for label, name, weaker in weaker_clauses(clause, k + 1, code):
             yield edit(label, name, [head, *clauses[:k], weaker, *clauses[k + 1:]], cited)

@@ -1,5 +1,7 @@
 // Refusals 1 to 7: whether two tables are accepted as a rota, and whether its plans can be counted and a fleet priced. Each test
 // stands alone; the last four make those of a call in their order.
+#![tactic(auto)]
+
 ghost use Rattle.std.specs.Prelude.{◌≡◌, cond, ◌≤◌, eqb, length};
 ghost use Rattle.model.specs.Rota.{cell_code, table_code};
 ghost use Rattle.model.specs.Refusal.{size_code, tally_code, fleet_code};
@@ -40,6 +42,7 @@ pub fn cell_code(m: usize, opens: &[u64], callouts: &[u64]) -> u32
 }
 
 // 1, 2, 3, 4 or 0 of a rota of n items and m slots. More than 64 items are refused before m is used.
+#[tactic(auto, unfolding(model::specs::Rota::table_code))]
 pub fn table_code(n: usize, m: usize, opens: &[u64], callouts: &[u64]) -> u32
     requires { n ≤ 64 → m ≤ 64 }
     ensures { result ≡ table_code n m opens.now callouts.now }
@@ -94,6 +97,7 @@ pub fn fleet_code(vehicles: u64) -> u32
 }
 
 // 1 to 5 or 0.
+#[tactic(auto, unfolding(model::specs::CountAnswers::sized_code, model::specs::Refusal::or_else))]
 pub fn sized_code(n: usize, m: usize, opens: &[u64], callouts: &[u64]) -> u32
     requires { n ≤ 64 → m ≤ 64 }
     ensures { result ≡ sized_code n m opens.now callouts.now }
@@ -106,6 +110,7 @@ pub fn sized_code(n: usize, m: usize, opens: &[u64], callouts: &[u64]) -> u32
 }
 
 // 1 to 6 or 0, for a tally of so many words.
+#[tactic(auto, using(model::proofs::Refusals::sized_passed), unfolding(model::specs::CountAnswers::count_code, model::specs::Refusal::or_else))]
 pub fn count_code(n: usize, m: usize, opens: &[u64], callouts: &[u64], tally: usize) -> u32
     requires { n ≤ 64 → m ≤ 64 }
     ensures { result ≡ count_code n m opens.now callouts.now tally }
@@ -118,6 +123,7 @@ pub fn count_code(n: usize, m: usize, opens: &[u64], callouts: &[u64], tally: us
 }
 
 // 1 to 5, 7 or 0.
+#[tactic(auto, unfolding(model::specs::PriceAnswers::untallied_price_code, model::specs::Refusal::or_else))]
 pub fn untallied_price_code(
     n: usize,
     m: usize,
@@ -136,6 +142,7 @@ pub fn untallied_price_code(
 }
 
 // 1 to 7 or 0.
+#[tactic(auto, unfolding(model::specs::PriceAnswers::price_code, model::specs::Refusal::or_else))]
 pub fn price_code(
     n: usize,
     m: usize,

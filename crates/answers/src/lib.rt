@@ -1,4 +1,6 @@
 // The records that answer a call for a plan; those for the grade and the price in modules of their own.
+#![tactic(auto)]
+
 ghost use Rattle.std.specs.Prelude.{◌≡◌};
 ghost use Rattle.model.specs.PlanAnswers.{given, refused, short, over_cap};
 

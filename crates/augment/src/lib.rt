@@ -1,13 +1,15 @@
 // The layered augmenting search over words. A partial matching of items and slots stands in two tables and a word: owner[k] is
 // the item that holds slot k, slot[x] the slot that item x holds, and `free` the slots that nobody holds. What `owner` has at a
 // free slot means nothing, nor what `slot` has at an item without one.
+#![tactic(auto)]
+
 ghost use Rattle.std.specs.Prelude.{◌≡◌, ◌≢◌, ◌<◌, length};
 ghost use Rattle.augment.specs.Table.{own, Table, Owners, span};
 ghost use Rattle.augment.specs.Search.{UnheldIn, Vacant, Takeable, Taken, Movable, Mover, Relocatable, Relocated, Vacatable, Vacated};
 ghost use Rattle.augment.specs.Search.{Certificate, Displaceable, Assigned, Barred, Same};
 
 // A slot that was found, below 64, and the word of free slots afterwards; or 64, and the closed set that rules every slot out.
-#[derive(Drop)]
+#[derive(Clone, Copy)]
 pub struct Found {
     pub at: usize,
     pub word: u64,

@@ -1,4 +1,6 @@
 // A cell's plan (docs/RULES.md): the least perfect matching that holds a given cell. The tables are those of `augment`.
+#![tactic(auto)]
+
 ghost use Rattle.std.specs.Prelude.{◌≡◌, ◌≤◌, length};
 ghost use Rattle.model.specs.Plans.{blank};
 ghost use Rattle.model.specs.CellPlans.{cell_plan};

@@ -1,3 +1,4 @@
 pub mod Grows
 pub mod Finishes
 pub mod AllowedTables
+pub mod Marks

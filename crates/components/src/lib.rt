@@ -1,13 +1,15 @@
 // The allowed cells of a complete table: for each item the slots that some complete plan gives it, by strongly connected components.
 // In the graph on the slots a held slot leads to the slots open to its holder, and a free slot to every slot, as if a spare item that
 // may use them all held it.
+#![tactic(auto)]
+
 ghost use Rattle.std.specs.Prelude.{◌≡◌, ◌≤◌, length};
 ghost use Rattle.augment.specs.Table.{Owners};
 ghost use Rattle.components.specs.Component.{Saturating, AllowedTable, Growing, Grown, Marked};
 
 // The slots that are not finished yet; and a set that leads back into the path, with the slots that it leads to. Both are empty if
 // the component is finished.
-#[derive(Drop)]
+#[derive(Clone, Copy)]
 struct Part {
     rest: u64,
     set: u64,

@@ -28,7 +28,7 @@ use Rattle.model.specs.NumberAnswers.{plan_at_code, plan_at_answer, plan_at_tall
 use Rattle.model.specs.FileAnswers.{read_refused, read_code, read_answer, read_opens, read_callouts, write_refused, write_code, write_answer, write_file, plan_file_code}
 use Rattle.model.specs.FileAnswers.{on_file, buffer_after}
 use Rattle.model.proofs.Refusals.{or-none, or_assoc, or_later, nothing_written}
-use Rattle.model.proofs.Codes.{first_code, next_code, fewest_code, cell-code, count_code, grade_code, price-code, read-code, write-code, on-file_code}
+use Rattle.model.proofs.Codes.{first_code, next_code, fewest_code, cell-code, count-code, grade-code, price-code, read-code, write-code, on-file_code}
 use Rattle.model.proofs.Codes.{untallied_count_code, untallied_grade_code, untallied-price-code, plan-at_code, plan-number_code}
 use Rattle.model.proofs.Permanent.{permanent_is_count}
 use Rattle.model.proofs.Files.{accepted-file}
@@ -117,11 +117,11 @@ module _ (n : ℕ) (opens callouts : List ℕ) where
       (sized _ _ (λ ok. test_first (test6 n tally) 5 _ refl (less (length tally) (2 ^ n)) others later (λ t. f ok)))
 
   count-number : (tally : List ℕ) → FirstOf (tables n opens callouts (test5 n ∷ test6 n tally ∷ [])) (count_answer n n opens callouts (length tally)).code
-  count-number tally = last _ _ _ (counted tally [] 0 (λ ok. none-fits)) (count_code n n opens callouts (length tally))
+  count-number tally = last _ _ _ (counted tally [] 0 (λ ok. none-fits)) (count-code n n opens callouts (length tally))
 
   grade-number : (tally : List ℕ)
       → FirstOf (tables n opens callouts (test5 n ∷ test6 n tally ∷ test9 opens ∷ [])) (grade_answer n n opens callouts (length tally)).code
-  grade-number tally = rw (grade_code n n opens callouts (length tally)) (counted tally _ _ (λ ok. grade_tests n n opens callouts ok _))
+  grade-number tally = rw (grade-code n n opens callouts (length tally)) (counted tally _ _ (λ ok. grade_tests n n opens callouts ok _))
 
   price-number : (vehicles : ℕ) (tally : List ℕ)
       → FirstOf (tables n opens callouts (test5 n ∷ test6 n tally ∷ test7 vehicles ∷ test9 opens ∷ []))

@@ -12,9 +12,8 @@ use Rattle.model.specs.declared.PlanAnswer.{PlanAnswer}
 use Rattle.model.specs.Refusal.{written}
 use Rattle.model.specs.Rota.{table_code}
 use Rattle.model.specs.Plans.{IsPlan}
-use Rattle.model.specs.Fewest.{fewest}
 use Rattle.model.specs.Allowed.{allowed_words}
-use Rattle.model.specs.Count.{count, permanent}
+use Rattle.model.specs.Count.{permanent}
 use Rattle.model.specs.declared.Edition.{Edition}
 use Rattle.model.specs.File.{items_in, slots_in, opens_in, callouts_in}
 use Rattle.model.specs.PlanAnswers.{refused, first_answer, next_answer, fewest_answer}

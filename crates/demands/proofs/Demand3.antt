@@ -44,7 +44,7 @@ module _ (n : ℕ) (opens callouts : List ℕ) where
   -- the calls over the rota answer as the lister does, and leave it as `stored` says
   left_as : (c : ListCall) (e : Lister) → entry c ≡ e → exit c ≡ stored e c.answer
   unfolding lister_after
-  left_as c e q = rw (← q, (list_met c).0) (list_met c).1
+  left_as c e q = (list_met c).1 ∙ ap₂ stored q (sym (list_met c).0)
 
   answers_as : (c : ListCall) (e : Lister) → entry c ≡ e → Over n opens callouts c → c.answer ≡ own e
   answers_as c e q o = rw (← q, ← o.0, ← o.1, ← o.2) (list_met c).0

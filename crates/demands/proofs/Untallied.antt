@@ -16,7 +16,7 @@ use Rattle.model.specs.PriceAnswers.{grade_unless, untallied_grade, grade_answer
 use Rattle.model.proofs.Members.{neither}
 use Rattle.model.proofs.Accepted.{tables-from}
 use Rattle.model.proofs.Refusals.{or-first, or-none, sized_passed}
-use Rattle.model.proofs.Codes.{untallied_count_code, count_code, grade_code, price-code}
+use Rattle.model.proofs.Codes.{untallied_count_code, count-code, grade-code, price-code}
 use Rattle.model.proofs.Ryser.{ryser_is_count, ryser_sum}
 use Rattle.demands.specs.Tests.{Test, FirstOf}
 use Rattle.demands.specs.Untallied.{Untallied}
@@ -62,10 +62,10 @@ module _ (n : ℕ) (opens callouts : List ℕ) where
 
   module _ (words : ℕ) where
     count_same : (count_answer n n opens callouts words).code ≢ 6 → untallied_count n n opens callouts ≡ count_answer n n opens callouts words
-    count_same d = count_by words (sized_by words (λ e. d (count_code n n opens callouts words ∙ e)))
+    count_same d = count_by words (sized_by words (λ e. d (count-code n n opens callouts words ∙ e)))
 
     grade-same : (grade_answer n n opens callouts words).code ≢ 6 → untallied_grade n n opens callouts ≡ grade_answer n n opens callouts words
-    grade-same d = grade-by words (sized_by words (stays_6 _ _ (λ e. d (grade_code n n opens callouts words ∙ e))))
+    grade-same d = grade-by words (sized_by words (stays_6 _ _ (λ e. d (grade-code n n opens callouts words ∙ e))))
 
     price-same : (vehicles : ℕ) → (price_answer n n opens callouts vehicles words).code ≢ 6
         → untallied_price n n opens callouts vehicles ≡ price_answer n n opens callouts vehicles words

@@ -10,3 +10,4 @@ pub mod BrittleItems
 pub mod Untallied
 pub mod PlanNumbers
 pub mod RuleOrder
+pub mod FirstRules

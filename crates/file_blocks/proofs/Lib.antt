@@ -2,4 +2,3 @@ mod Comparing
 mod Layouts
 mod OneBlock
 mod Checking
-mod ReaderSteps

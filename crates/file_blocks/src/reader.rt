@@ -6,14 +6,14 @@ use crate::checks;
 use file_layout::editions;
 use model::Edition;
 
-#[derive(Drop)]
+#[derive(Clone, Copy)]
 pub struct BlockReader<'a> {
     pub file: &'a [u8],
     pub next: usize,
 }
 
 // What the tests of blocks found: a check is wrong; all are laid out.
-#[derive(Drop)]
+#[derive(Clone, Copy)]
 pub struct Checked {
     pub wrong: bool,
     pub laid: bool,

@@ -9,6 +9,7 @@ use model::Edition;
 pub const MARK: [u8; 4] = *b"ROTA";
 
 // The ten bytes of a header after the mark, of block b with k items of a rota of n items and m slots. Edition 1 does not tell m.
+#[tactic(auto, using(crate::proofs::ByEdition::fields_are))]
 pub fn fields(edition: Edition, n: u8, m: u8, b: u8, k: u8) -> [u8; 10]
     ensures { mark ++ result ≡ header edition n m b k }
 {
@@ -32,6 +33,7 @@ fn sum_of(bytes: &[u8]) -> u64
 }
 
 // The check of bytes 0 to 509 of a block.
+#[tactic(auto, using(crate::proofs::ByEdition::check_is))]
 pub fn check_of(edition: Edition, bytes: &[u8]) -> u64
     requires { length bytes.now ≤ 510 }
     ensures { result ≡ check_of edition bytes.now }
@@ -42,6 +44,7 @@ pub fn check_of(edition: Edition, bytes: &[u8]) -> u64
 }
 
 // m of the rota in a file.
+#[tactic(auto, using(crate::proofs::ByEdition::slots_are))]
 pub fn slots_in(edition: Edition, file: &[u8]) -> u8
     requires { 14 ≤ length file.now }
     ensures { result ≡ slots_in edition file.now }

@@ -1,4 +1,6 @@
 // Reading: any bytes as the rota of a file, or refused.
+#![tactic(auto)]
+
 ghost use Rattle.std.specs.Prelude.{◌≡◌, true, ◌++◌, ◌≤◌, ◌*◌, ◌/◌, length, drop, replicate};
 ghost use Rattle.model.specs.Rota.{cell_code};
 ghost use Rattle.model.specs.File.{words_in, blocks_in, items_in, slots_in, opens_in, callouts_in, laid_out, file_code};
@@ -10,7 +12,7 @@ use file_layout::{editions, numbers};
 use model::Edition;
 
 // A refusal; or 0 and the rota in a file, n items whose words are followed by zeros.
-#[derive(Drop)]
+#[derive(Clone, Copy)]
 pub struct FileRota {
     pub code: u32,
     pub n: usize,

@@ -1,5 +1,5 @@
 -- What is written part by part: an item, a header, a block, all blocks. Assumes nothing.
-use mathlib.Core.Path.{◌≡◌, refl, sym, ap, ap₂, ◌∙◌}
+use mathlib.Core.Path.{◌≡◌, sym, ap, ap₂, ◌∙◌}
 use mathlib.Core.List.{List, ◌++◌, append-nil, append_assoc, flatten}
 use Prim.Native.Nat.{ℕ, suc, ◌+◌, ◌-◌, ◌*◌, ◌≤◌, ◌<◌, min}
 use native.Mathlib.Numerals.{add-one}
@@ -9,7 +9,7 @@ use lib.ListN.{length, get_or, take, drop, replicate, length-append, length-take
 use lib.Seq.{take_all, take_at, drop_at, take-take, drop-drop, drop-cons, length-take-le}
 use Rattle.model.specs.declared.Edition.{Edition}
 use Rattle.model.specs.File.{low_bytes, mark, blocks_for, items_of, header, item_bytes, unused, check_of, body, checked, blocks, file_bytes}
-use Rattle.model.proofs.Parts.{put_last, put_front, put_more, put_length, copied}
+use Rattle.model.proofs.Parts.{put_last, put_front, put_more, put_length}
 use Rattle.model.proofs.Editions.{header-length}
 use Rattle.model.proofs.FileBlocks.{low-length, items-length, body-length}
 
@@ -32,16 +32,10 @@ item-written w c out x y h p q =
     let z : length (take 8 (drop 8 (x ++ drop 8 out))) ≡ 8 = ap (λ l. length (take 8 l)) r ∙ length-take-le 8 (drop 8 out) (omega (arith, length-drop 8 out)) in
     put_two 8 8 out x y h d ∙ ap₂ ◌++◌ a (q ∙ ap (λ k. low_bytes k c) z)
 
-pub header-written : (e : Edition) (n m b k : ℕ) (rest out x y : List ℕ) → length out ≡ 14 → mark ++ rest ≡ header e n m b k
-    → x ≡ take 4 mark ++ drop 4 (take 4 out) → y ≡ take (length rest) rest ++ drop (length rest) (take 10 (drop 4 (x ++ drop 4 out)))
+pub header-written : (e : Edition) (n m b k : ℕ) (rest out x y : List ℕ) → length out ≡ 14 → mark ++ rest ≡ header e n m b k → x ≡ mark → y ≡ rest
     → put 4 10 (x ++ drop 4 out) y ≡ header e n m b k
 unfolding mark
-header-written e n m b k rest out x y h f p q =
-    let r : length rest ≡ 10 = omega (arith, ap length f, header-length e n m b k) in
-    let a : x ≡ mark = p ∙ copied 4 mark (take 4 out) refl (omega (arith, length-take 4 out)) in
-    let t = take 10 (drop 4 (x ++ drop 4 out)) in
-    let z : y ≡ rest = q ∙ copied (length rest) rest t refl (omega (arith, length-take 10 (drop 4 (x ++ drop 4 out)))) in
-    put_two 4 10 out x y h (ap length a) ∙ ap₂ ◌++◌ a z ∙ f
+header-written e n m b k rest out x y h f p q = put_two 4 10 out x y h (ap length p) ∙ ap₂ ◌++◌ p q ∙ f
 
 -- ---- items
 

@@ -1,4 +1,6 @@
 // Writing: the bytes of an item, of a block and of all blocks, each into its own part of the lent file.
+#![tactic(auto)]
+
 ghost use Rattle.std.specs.Prelude.{◌≡◌, ◌++◌, ◌≤◌, ◌*◌, length, replicate};
 ghost use Rattle.model.specs.File.{low_bytes, header, item_bytes, body, checked, blocks_for, file_bytes};
 
@@ -47,8 +49,8 @@ fn write_header(edition: Edition, n: u8, m: u8, b: u8, k: u8, out: &mut [u8])
 {
     let mark = editions::MARK;
     let rest = editions::fields(edition, n, m, b, k);
-    bytes::copy(&mark, &mut out[0..4]);
-    bytes::copy(&rest, &mut out[4..14]);
+    out[0..4].copy_from_slice(&mark);
+    out[4..14].copy_from_slice(&rest);
 }
 
 // Bytes 0 to 509 of block b of a rota of n items and m slots, from the items in it.

@@ -15,7 +15,7 @@ use Rattle.model.proofs.Laws.{first-of, first_of-none}
 use Rattle.augment.specs.Table.{at}
 use Rattle.maximum.specs.Maximum.{Filled, deficient_by}
 use Rattle.maximum.proofs.Deficient.{deficient_answer, exposed_no_plan, none-exposed-complete}
-use Rattle.least.specs.Least.{Settleable, Same_to, Settled}
+use Rattle.least.specs.Least.{Settleable, SameTo, Settled}
 use Rattle.least.proofs.Shifts.{lt-or}
 
 -- a full table is complete, and no item is before the first
@@ -25,16 +25,16 @@ filled_settleable {w} {o} {p} {f} {e} {d} F z =
     record { before = record { complete = C; held = λ k h b. absurd (none k b); only = λ k h b. absurd (none k b); all = search arith }; within = omega arith }
 
 -- where one plan comes before another, at the first item at which they differ
-pub before-item : {w p q : List ℕ} → IsPlan w p → IsPlan w q → Before p q → (i : ℕ) × (i < length w) × Same_to p q i × (at p i < at q i)
+pub before-item : {w p q : List ℕ} → IsPlan w p → IsPlan w q → Before p q → (i : ℕ) × (i < length w) × SameTo p q i × (at p i < at q i)
 before-item {w} {p} {q} P Q b =
     let d = before_place p q (P.sized ∙ sym Q.sized) b in
     lt-or d.0 (length w) (λ h. (d.0, h, d.2, d.3)) (λ h. absurd (omega (arith, d.1, d.3, Q.zeros d.0 h (omega (arith, d.1, P.sized)))))
 
-pub before_at : {w p q : List ℕ} → length w ≤ 64 → IsPlan w p → IsPlan w q → (i : ℕ) → i < length w → Same_to p q i → at p i < at q i → Before p q
+pub before_at : {w p q : List ℕ} → length w ≤ 64 → IsPlan w p → IsPlan w q → (i : ℕ) → i < length w → SameTo p q i → at p i < at q i → Before p q
 before_at {w} {p} {q} few P Q i h same less = before_by p q i (omega (arith, P.sized)) (omega (arith, Q.sized)) same less
 
 -- a plan that gives the items before `from` the same slots is the settled one, or comes after it
-pub settled_before : {w p : List ℕ} {from : ℕ} {r : List ℕ} → Settled w p from r → {q : List ℕ} → IsPlan w q → Same_to q r from → (q ≡ r) ⊎ Before r q
+pub settled_before : {w p : List ℕ} {from : ℕ} {r : List ℕ} → Settled w p from r → {q : List ℕ} → IsPlan w q → SameTo q r from → (q ≡ r) ⊎ Before r q
 settled_before {from} {r} S {q} Q A = go (before_trichotomy q r (Q.sized ∙ sym S.plan.sized))
   where
     go : (q ≡ r) ⊎ (Before q r ⊎ Before r q) → (q ≡ r) ⊎ Before r q

@@ -18,7 +18,7 @@ use Rattle.augment.proofs.Moves.{same_or}
 use Rattle.augment.proofs.Vacants.{unheld_part, unheld-bit, unheld-none}
 use Rattle.augment.proofs.Bars.{Shut}
 use Rattle.augment.proofs.Completes.{complete-plan}
-use Rattle.least.specs.Least.{Fixed, Shifted, Lowerable, Lowered, LaterWithin, Prefix, Minimizable, Settleable, Same_to, Settled}
+use Rattle.least.specs.Least.{Fixed, Shifted, Lowerable, Lowered, LaterWithin, Prefix, Minimizable, Settleable, SameTo, Settled}
 use Rattle.least.proofs.Shifts.{lt-or, own-slot, held-without, slot_small, not_fixed, closed_bars, lowered_shifted, Near}
 
 -- ---- later: from the last item down to i
@@ -85,13 +85,13 @@ module _ {w o p : List ℕ} {f x fixed : ℕ} (P : Prefix w o p f x fixed) where
   prefix_fixed h = record { complete = P.complete; known = h; held = P.held; others = λ k l b e. omega (arith, P.only k l b) }
 
   -- a plan that gives those items the same slots leaves these to their holders
-  pub prefix_agrees : (q : List ℕ) → Same_to q p x → Agrees o fixed q
+  pub prefix_agrees : (q : List ℕ) → SameTo q p x → Agrees o fixed q
   prefix_agrees q S k h b = S (own o k) (P.only k h b) ∙ P.complete.table.back k h (P.held k h b)
 
   -- x moves to k
   module _ (known : x < length w) {may : ℕ} {o' p' : List ℕ} {f' k : ℕ} (H : Shifted w o x may fixed o' p' f' k) where
     -- the items before x keep their slots
-    pub prefix_stays : Same_to p' p x
+    pub prefix_stays : SameTo p' p x
     prefix_stays l g =
         let M = P.complete.all l (omega arith) in
         let r = H.keeps (at p l) M.slot (P.all (at p l) M.slot M.held (omega (arith, M.owns))) in
@@ -219,8 +219,8 @@ pub record Settling (w p₀ : List ℕ) (from : ℕ) (o p : List ℕ) (f fixed i
   pub before : Prefix w o p f i fixed
   pub low : from ≤ i
   pub high : i ≤ length w
-  pub same : Same_to p p₀ from
-  pub least : (x : ℕ) → from ≤ x → x < i → (q : List ℕ) → IsPlan w q → Same_to q p x → at p x ≤ at q x
+  pub same : SameTo p p₀ from
+  pub least : (x : ℕ) → from ≤ x → x < i → (q : List ℕ) → IsPlan w q → SameTo q p x → at p x ≤ at q x
 
 pub settling_start : {w o p : List ℕ} {f from fixed : ℕ} → fixed < 2 ^ 64 → Settleable w o p f from fixed → Settling w p from o p f fixed from
 settling_start fits S = search arith
@@ -250,7 +250,7 @@ module _ {w p₀ : List ℕ} {from : ℕ} {o p : List ℕ} {f fixed i : ℕ} (S 
       pub settling_slot : k < 64
       settling_slot = omega (arith, H.slot, (H.complete.all i more).slot)
 
-      stays : Same_to p' p i
+      stays : SameTo p' p i
       stays = prefix_stays S.before more (lowered_shifted H)
 
       pub settling_turn : {fixed' : ℕ} → fixed' ≡ with fixed k → Settling w p₀ from o' p' f' fixed' (i + 1)

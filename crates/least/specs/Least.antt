@@ -80,11 +80,11 @@ pub record Settleable (w o p : List ℕ) (f from fixed : ℕ) : Type 0 where
   pub within : from ≤ length w
 
 -- q and r give the items before x the same slots
-abbrev pub Same_to : List ℕ → List ℕ → ℕ → Type 0
-Same_to q r x = (l : ℕ) → l < x → at q l ≡ at r l
+abbrev pub SameTo : List ℕ → List ℕ → ℕ → Type 0
+SameTo q r x = (l : ℕ) → l < x → at q l ≡ at r l
 
 -- p' is the least plan that gives the items before `from` the slots that p gives them
 pub record Settled (w p : List ℕ) (from : ℕ) (p' : List ℕ) : Type 0 where
   pub plan : IsPlan w p'
-  pub same : Same_to p' p from
-  pub least : (x : ℕ) → from ≤ x → x < length w → (q : List ℕ) → IsPlan w q → Same_to q p' x → at p' x ≤ at q x
+  pub same : SameTo p' p from
+  pub least : (x : ℕ) → from ≤ x → x < length w → (q : List ℕ) → IsPlan w q → SameTo q p' x → at p' x ≤ at q x

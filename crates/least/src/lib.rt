@@ -1,5 +1,7 @@
 // The least perfect matching (the first plan of docs/RULES.md): a complete table is made least item by item, with the slots of the items
 // before left to them. The tables are those of `augment`.
+#![tactic(auto)]
+
 ghost use Rattle.std.specs.Prelude.{◌≡◌, ◌≢◌, ◌≤◌, ◌<◌, length, get_or};
 ghost use Rattle.std.specs.Int.Bits.{bit_and, bit_or};
 ghost use Rattle.words.specs.Word.{with, minus, low};

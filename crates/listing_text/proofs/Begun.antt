@@ -5,7 +5,7 @@ use Prim.Native.Nat.{ℕ, ◌+◌, ◌-◌, ◌<◌, ◌≤◌}
 use native.Mathlib.Omega.{arith}
 use native.Mathlib.Numerals.{add-one}
 use lib.ListN.{length, take, drop, set, take-append-drop, length-append, length-drop, length-set, drop_of_length-le}
-use lib.Seq.{take_at, drop_at, drop-drop, length-take-le, take_all, take-length, take-suc-set, drop-set-lt}
+use lib.Seq.{take_at, drop_at, drop-drop, length-take-le, take_all, take-suc-set, drop-set-lt}
 use Rattle.listing_text.specs.Writing.{Wrote}
 
 -- the text is written but for `rest`: before place `at` stands its front, from there on what was lent
@@ -126,7 +126,6 @@ module _ (x rest old : List ℕ) (room : length (x ++ rest) ≤ length old) wher
 pub wrote_within : {text old new : List ℕ} {r : ℕ} → Wrote text old new r → r ≤ length new
 wrote_within {text} {old} {new} {r} w = omega (arith, w.size, ap length w.bytes, length-append text (drop r old))
 
--- a copy of bytes is such a part
-pub copy_wrote : (word : List ℕ) {old page : List ℕ} {r : ℕ} → r ≡ length word → page ≡ take (length word) word ++ drop (length word) old
-    → Wrote word old page r
-copy_wrote word {old} n e = record { bytes = e ∙ ap₂ (λ w k. w ++ drop k old) (take-length word) (sym n); size = n }
+-- a copy of bytes over the front is such a part
+pub copy_wrote : (word : List ℕ) {old part : List ℕ} → part ≡ word → Wrote word old (part ++ drop (length word) old) (length word)
+copy_wrote word {old} e = record { bytes = ap (◌++ drop (length word) old) e; size = refl }

@@ -1,5 +1,5 @@
 -- What a function that writes a text says of the bytes that it is lent, and the parts of a rota's listing. Assumes nothing.
-use Rattle.std.specs.Prelude.{◌≡◌, false, cond, List, [], ◌∷◌, ◌++◌, ℕ, eqb, length, take, drop, replicate}
+use Rattle.std.specs.Prelude.{◌≡◌, false, cond, List, ◌++◌, ℕ, eqb, length, take, drop, replicate}
 use Rattle.model.specs.declared.Lister.{Lister}
 use Rattle.model.specs.Plans.{plans}
 use Rattle.model.specs.ListingText.{end_word, more_word, number_line, plan_lines, last_line}

@@ -1,5 +1,7 @@
 // The text of a listing, in a lent page. Each function writes its text over the front of what it is lent, which has room for it, and
 // answers how many bytes that was.
+#![tactic(auto)]
+
 ghost use Rattle.std.specs.Prelude.{◌≡◌, ◌+◌, ◌*◌, ◌≤◌, length};
 ghost use mathlib.Core.List.{flat_map};
 ghost use Rattle.model.specs.declared.Edition.{Edition};
@@ -34,7 +36,8 @@ fn number_line(word: &[u8], x: u64, out: &mut [u8]) -> usize
     requires { length (number_line word.now x) ≤ length out.old }
     ensures { Wrote (number_line word.now x) out.old out.new result }
 {
-    let a = bytes::copy(word, out);
+    let a = word.len();
+    out[..a].copy_from_slice(word);
     let b = a + number(x, &mut out[a..]);
     out[b] = b'\n';
     b + 1

@@ -1,5 +1,7 @@
 // Maximum matchings, and the deficient set that shows that no matching is larger (the shortage of docs/RULES.md). The tables are those
 // of `augment`.
+#![tactic(auto)]
+
 ghost use Rattle.std.specs.Prelude.{◌≡◌, ℕ, ◌^◌, ◌≤◌, ◌<◌, length};
 ghost use Rattle.std.specs.Int.Bits.{bit_or};
 ghost use Rattle.words.specs.Word.{bit};
@@ -10,7 +12,7 @@ ghost use Rattle.maximum.specs.Maximum.{Fillable, Filled, Refillable, holders, d
 use model::PlanAnswer;
 
 // The free slots, the exposed items, and the dead slots: those that no item may use in any matching that serves more.
-#[derive(Drop)]
+#[derive(Clone, Copy)]
 pub struct Maximum {
     pub free: u64,
     pub exposed: u64,

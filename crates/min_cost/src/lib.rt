@@ -1,6 +1,8 @@
 // The fewest callouts: the minimum-cost perfect matching with costs 0 and 1, by duals, and among these the first in dictionary
 // order. The duals are u[i] = dual[i] + 1 of the items and v[j] of the slots, all 1 at first, with u[i] <= cost(i, j) + v[j] on
 // every open cell, cost 1 for a callout, else 0; a cell is tight where both sides are equal. level[x] are the slots with v = x.
+#![tactic(auto)]
+
 ghost use Rattle.std.specs.Prelude.{◌≡◌, List, ℕ, length};
 ghost use Rattle.model.specs.Plans.{IsPlan};
 ghost use Rattle.model.specs.PlanAnswers.{fewest_from};
@@ -9,7 +11,7 @@ ghost use Rattle.min_cost.specs.Dual.{Square, Lifted, Raisable, Raised, Cheapest
 use model::PlanAnswer;
 
 // A plan with the fewest callouts, and their number.
-#[derive(Drop)]
+#[derive(Clone, Copy)]
 struct Cheap {
     slots: [u8; 64],
     number: usize,

@@ -75,14 +75,14 @@ module _ (n m : ℕ) (opens callouts : List ℕ) where
   untallied-price-code vehicles = priced_code (untallied_price_code n m opens callouts vehicles) m opens callouts vehicles
 
   module _ (words : ℕ) where
-    pub count_code : (count_answer n m opens callouts words).code ≡ count_code n m opens callouts words
+    pub count-code : (count_answer n m opens callouts words).code ≡ count_code n m opens callouts words
     unfolding count_answer
-    count_code = counted_code (count_code n m opens callouts words) m opens
+    count-code = counted_code (count_code n m opens callouts words) m opens
 
-    pub grade_code : (grade_answer n m opens callouts words).code
+    pub grade-code : (grade_answer n m opens callouts words).code
         ≡ or_else (count_code n m opens callouts words) (grade_by opens (count m opens) (rota_grade m opens)).code
     unfolding grade_answer
-    grade_code = graded_code (count_code n m opens callouts words) m opens
+    grade-code = graded_code (count_code n m opens callouts words) m opens
 
     pub price-code : (vehicles : ℕ) → (price_answer n m opens callouts vehicles words).code
         ≡ or_else (price_code n m opens callouts vehicles words)

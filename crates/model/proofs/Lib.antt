@@ -31,3 +31,5 @@ pub mod Files
 pub mod RoundTrips
 pub mod Sheet
 pub mod ListingLength
+pub mod Rows
+pub mod Bounds

@@ -41,9 +41,9 @@ rota-line : (n : ℕ) → n < 100 → length (rota_line n) ≤ 8
 unfolding rota_line
 rota-line n h = number-line rota_word n 2 (decimal-fits 1 n h)
 
-last_line : (count : ℕ) → length (last_line count) ≤ 10
+last-line : (count : ℕ) → length (last_line count) ≤ 10
 unfolding last_line
-last_line count = elim (dec_le count 1000) [
+last-line count = elim (dec_le count 1000) [
   | yes h ↦ rw (le-leb count 1000 h) (let s = number-line end_word count 4 (decimal-fits 3 count (omega arith)) in omega arith)
   | no h ↦ rw (lt-leb count 1000 (omega arith)) (number-line more_word 1000 4 (decimal-fits 3 1000 (omega arith)))
 ]
@@ -91,7 +91,7 @@ module _ (callouts : List ℕ) (items : length callouts ≤ 64) where
         length-append lines last,
         rota-line n h,
         plan-lines 1000 1 (p ∷ rest) (omega arith) s,
-        last_line (length (p ∷ rest)),
+        last-line (length (p ∷ rest)),
       )
 
 -- ---- the listing

@@ -1,5 +1,5 @@
--- The definitions at the bounds of the rules (docs/RULES.md), computed by antt. Assumes nothing.
-use Rattle.std.specs.Prelude.{◌≡◌, refl, true, false, [], ◌∷◌, ◌^◌, ◌-◌, length, replicate}
+-- The definitions at the bounds of the rules (docs/RULES.md), computed in proofs/Bounds.antt. Assumes nothing.
+use Rattle.std.specs.Prelude.{◌≡◌, true, false, [], ◌∷◌, ◌^◌, ◌-◌, length, replicate}
 use Rattle.model.specs.declared.Edition.{Edition}
 use Rattle.model.specs.Rota.{table_code}
 use Rattle.model.specs.Grade.{grade_of, rate}
@@ -49,10 +49,6 @@ pub record Codes : Type 0 where
   pub zero-file : file_code Edition.One (replicate 512 0) ≡ 14
   pub wrong_check : file_code Edition.One (1 ∷ replicate 511 0) ≡ 13
 
-pub codes : Codes
-unfolding table_code untallied_count untallied_price_code count_code file_code plan_at_answer plan_number_answer
-codes = search refl
-
 -- the rules of the grade, the second argument saying whether some item is forced; the rates' columns; the blocks
 pub record Figures : Type 0 where
   pub rule_1 : grade_of 1 true ≡ 1
@@ -78,10 +74,6 @@ pub record Figures : Type 0 where
   pub three_blocks : blocks_for 63 ≡ 3
   pub three_blocks_most : blocks_for 64 ≡ 3
 
-pub figures : Figures
-unfolding grade_of rate blocks_for
-figures = search refl
-
 -- a number in the columns of a sheet; the mark of the highest slot
 pub record Columned : Type 0 where
   pub nought : aligned 0 ≡ 32 ∷ 48 ∷ []
@@ -90,10 +82,6 @@ pub record Columned : Type 0 where
   pub highest : aligned 63 ≡ 54 ∷ 51 ∷ []
   pub callout : mark_of (2 ^ 63 ∷ []) (63 ∷ []) 0 ≡ 67
   pub no_callout : mark_of ((2 ^ 63 - 1) ∷ []) (63 ∷ []) 0 ≡ 32
-
-pub columned : Columned
-unfolding aligned mark_of
-columned = search refl
 
 -- numbers in a listing; its last line below, at and above the 1,000 plans that are listed; and 1,001 plans of no items, of which 1,000 lines of
 -- 7 to 10 bytes are written, between 7 bytes and 10
@@ -106,7 +94,3 @@ pub record Lines : Type 0 where
   pub plans-1000 : last_line 1000 ≡ 101 ∷ 110 ∷ 100 ∷ 32 ∷ 49 ∷ 48 ∷ 48 ∷ 48 ∷ 10 ∷ []
   pub plans-1001 : last_line 1001 ≡ 109 ∷ 111 ∷ 114 ∷ 101 ∷ 32 ∷ 49 ∷ 48 ∷ 48 ∷ 48 ∷ 10 ∷ []
   pub listed_1000 : length (listing_of 1 [] (replicate 1001 [])) ≡ 8910
-
-pub lines : Lines
-unfolding decimal last_line listing_of
-lines = search refl

@@ -1,12 +1,11 @@
 -- Worked rotas of docs/RULES.md, those that document 01 marks P (the grade of 7, 6, 6 is change request 103's), and T's file and listing: tables of
--- equations that antt computes. Assumes nothing.
-use Rattle.std.specs.Prelude.{◌≡◌, refl, List, [], ◌∷◌, ◌++◌, map, ℕ, ◌+◌, ◌*◌, length, get_or, take, drop, replicate}
+-- equations, which proofs/Rows.antt computes. Assumes nothing.
+use Rattle.std.specs.Prelude.{◌≡◌, List, [], ◌∷◌, ◌++◌, map, ℕ, ◌+◌, ◌*◌, length, get_or, take, drop, replicate}
 use Rattle.model.specs.declared.Edition.{Edition}
 use Rattle.model.specs.declared.Plan.{Plan}
 use Rattle.words.specs.Sum.{below}
 use Rattle.model.specs.Plans.{plans, blank}
 use Rattle.model.specs.Allowed.{allowed_words}
-use Rattle.model.specs.Count.{permanent, subset_counts}
 use Rattle.model.specs.Ryser.{set_product, added_terms, taken_terms}
 use Rattle.model.specs.File.{file_bytes, file_code, items_in, opens_in, callouts_in}
 use Rattle.model.specs.PlanAnswers.{first_answer, next_answer, fewest_answer, cell_answer, given, refused, short, over_cap}
@@ -16,7 +15,7 @@ use Rattle.model.specs.PriceAnswers.{grade_answer, untallied_grade, price_answer
 use Rattle.model.specs.NumberAnswers.{plan_at_answer, plan_at_tally, number_given, number_refused, plan_number_answer, plan_number_tally}
 use Rattle.model.specs.ListingText.{listing_text}
 
-abbrev T_opens : List ℕ
+abbrev pub T_opens : List ℕ
 T_opens = 3 ∷ 7 ∷ 6 ∷ []
 
 abbrev T_callouts : List ℕ
@@ -69,10 +68,6 @@ pub record Rows : Type 0 where
   pub none-cell : cell_answer 1 1 (0 ∷ []) (none 1) 0 0 ≡ given blank 0
   pub T_last : next_answer 3 3 T_opens T_callouts (record { slots = slots 1 0 2 }) ≡ refused 10
 
-pub rows : Rows
-unfolding plans count_answer fewest_answer grade_answer price_answer allowed_words first_answer next_answer cell_answer
-rows = search refl
-
 -- without a tally
 pub record UntalliedRows : Type 0 where
   pub T_count : untallied_count 3 3 T_opens T_callouts ≡ record { code = 0; count = 3 }
@@ -83,10 +78,6 @@ pub record UntalliedRows : Type 0 where
   pub none-count : untallied_count 1 1 (0 ∷ []) (none 1) ≡ record { code = 0; count = 0 }
   pub none-grade : untallied_grade 1 1 (0 ∷ []) (none 1) ≡ record { code = 9; grade = 0; shortage = 1; items = 1 }
   pub none-price : untallied_price 1 1 (0 ∷ []) (none 1) 1 ≡ record { code = 9; shortage = 1; items = 1; cents = 0 }
-
-pub untallied_rows : UntalliedRows
-unfolding untallied_count untallied_grade untallied_price
-untallied_rows = search refl
 
 -- plans by their numbers
 pub record NumberRows : Type 0 where
@@ -109,10 +100,6 @@ pub record NumberRows : Type 0 where
   pub none-plan : plan_at_answer 1 1 (0 ∷ []) (none 1) 0 2 ≡ refused 16
   pub one_plan : plan_at_answer 1 1 (1 ∷ []) (none 1) 0 2 ≡ given (0 ∷ replicate 63 0) 0
 
-pub number-rows : NumberRows
-unfolding plan_at_answer plan_at_tally plan_number_answer plan_number_tally
-number-rows = search refl
-
 -- T's file is one block, its check 338: byte 510 is 82 and byte 511 is 1; and back
 pub record File : Type 0 where
   pub size : length (file_bytes Edition.One 3 3 T_opens T_callouts) ≡ 512
@@ -125,10 +112,6 @@ pub record File : Type 0 where
   pub opens : opens_in (file_bytes Edition.One 3 3 T_opens T_callouts) ≡ T_opens
   pub callouts : callouts_in (file_bytes Edition.One 3 3 T_opens T_callouts) ≡ T_callouts
 
-pub file : File
-unfolding file_bytes file_code items_in opens_in callouts_in
-file = search refl
-
 -- the listing of T's file, line by line; of a rota with no plan; of no bytes
 pub record Listings : Type 0 where
   pub T_listing : listing_text Edition.One (file_bytes Edition.One 3 3 T_opens T_callouts)
@@ -139,10 +122,6 @@ pub record Listings : Type 0 where
       ++ (101 ∷ 110 ∷ 100 ∷ 32 ∷ 51 ∷ 10 ∷ [])
   pub no-plan : listing_text Edition.One (file_bytes Edition.One 2 2 (0 ∷ 3 ∷ []) (none 2)) ≡ (114 ∷ 101 ∷ 102 ∷ 117 ∷ 115 ∷ 101 ∷ 100 ∷ 32 ∷ 57 ∷ 10 ∷ [])
   pub no_bytes : listing_text Edition.One [] ≡ (114 ∷ 101 ∷ 102 ∷ 117 ∷ 115 ∷ 101 ∷ 100 ∷ 32 ∷ 49 ∷ 50 ∷ 10 ∷ [])
-
-pub listings : Listings
-unfolding listing_text file_bytes
-listings = search refl
 
 -- a line of a sheet, from what stands in columns 0, 1, 6, 7 and 12
 abbrev printed : ℕ → ℕ → ℕ → ℕ → ℕ → List ℕ
@@ -162,19 +141,6 @@ pub record Sheets : Type 0 where
   pub T_tables-first : sheet_code 3 3 T_opens (4 ∷ 0 ∷ 4 ∷ []) T_plan 127 ≡ 4
   pub T_kept : sheet_after 3 3 T_opens T_callouts (record { slots = slots 2 0 1 }) (replicate 129 7) ≡ replicate 129 7
 
-pub sheets : Sheets
-unfolding sheet_code sheet_after
-sheets = search refl
-
--- T's tally and its permanent
-pub T_tally : subset_counts 3 T_opens ≡ 1 ∷ 1 ∷ 1 ∷ 2 ∷ 0 ∷ 1 ∷ 1 ∷ 3 ∷ []
-unfolding subset_counts
-T_tally = refl
-
-pub T_permanent : permanent 3 T_opens ≡ 3
-unfolding permanent
-T_permanent = refl
-
 -- Ryser's formula: T's products, of the sets 0 to 7 as words, and its two sums; one item, where the set without a slot is taken off; no item
 pub record Formula : Type 0 where
   pub T_products : map (set_product T_opens) (below 8) ≡ 0 ∷ 0 ∷ 1 ∷ 4 ∷ 0 ∷ 2 ∷ 4 ∷ 12 ∷ []
@@ -185,7 +151,3 @@ pub record Formula : Type 0 where
   pub none_added : added_terms 1 (0 ∷ []) ≡ 0
   pub nobody_added : added_terms 0 [] ≡ 1
   pub nobody_taken : taken_terms 0 [] ≡ 0
-
-pub formula : Formula
-unfolding set_product below added_terms taken_terms
-formula = search refl

@@ -18,7 +18,7 @@ use Rattle.augment.specs.Table.{own, at, Complete}
 use Rattle.augment.specs.Search.{Within, Same}
 use Rattle.augment.proofs.Moves.{same_or}
 use Rattle.augment.proofs.Completes.{complete-plan}
-use Rattle.least.specs.Least.{Stuck, Lowered, LaterWithin, Prefix, Minimizable, Settleable, Same_to, Settled}
+use Rattle.least.specs.Least.{Stuck, Lowered, LaterWithin, Prefix, Minimizable, Settleable, SameTo, Settled}
 use Rattle.least.proofs.Shifts.{lt-or, own-slot, slot_small, lowered_shifted}
 use Rattle.least.proofs.Settles.{later-with, prefix_fixed, prefix_agrees, prefix_stays, prefix_next}
 use Rattle.least.proofs.Firsts.{before-item, before_at, settled_before}
@@ -30,7 +30,7 @@ pub record Advancing (w g o p : List ℕ) (f fixed after i : ℕ) : Type 0 where
   pub before : Prefix w o g f i fixed
   pub within : i ≤ length w
   pub later : (y : ℕ) → i ≤ y → y < length w → Within (get_or w y 0) after
-  pub stuck : (x : ℕ) → i ≤ x → x < length w → (q : List ℕ) → IsPlan w q → Same_to q g x → at q x ≤ at g x
+  pub stuck : (x : ℕ) → i ≤ x → x < length w → (q : List ℕ) → IsPlan w q → SameTo q g x → at q x ≤ at g x
 
 pub advancing_start : {w g o : List ℕ} {f fixed a : ℕ} → f < 2 ^ 64 → Complete w o g f → a ≡ low 64 → fixed ≡ minus a f → Advancing w g o g f fixed 0 (length w)
 advancing_start {w} {g} {o} {f} {fixed} fits C ea ek =
@@ -55,7 +55,7 @@ pub record Trying (w g o p : List ℕ) (f fixed after x : ℕ) : Type 0 where
   pub before : Prefix w o g f x fixed
   pub known : x < length w
   pub later : LaterWithin w x after
-  pub stuck : (y : ℕ) → x < y → y < length w → (q : List ℕ) → IsPlan w q → Same_to q g y → at q y ≤ at g y
+  pub stuck : (y : ℕ) → x < y → y < length w → (q : List ℕ) → IsPlan w q → SameTo q g y → at q y ≤ at g y
 
 pub advancing_slot : {w g o p : List ℕ} {f fixed after i : ℕ} → Advancing w g o p f fixed after i → 0 < i → at g (i - 1) < 64
 advancing_slot {i} A some = (A.before.complete.all (i - 1) (omega (arith, A.within))).slot
@@ -129,14 +129,14 @@ module _ {w g o p : List ℕ} {f fixed after x : ℕ} (T : Trying w g o p f fixe
 
     -- and the items after it are settled
     module _ {r : List ℕ} (S : Settled w p' (x + 1) r) where
-      same : Same_to r g x
+      same : SameTo r g x
       same l h = S.same l (omega arith) ∙ prefix_stays T.before T.known (lowered_shifted M) l h
 
       here : at r x ≡ k
       here = S.same x (omega arith) ∙ M.slot
 
       -- a plan that differs from g first at x
-      at_x : (q : List ℕ) → IsPlan w q → Same_to g q x → at g x < at q x → (q ≡ r) ⊎ Before r q
+      at_x : (q : List ℕ) → IsPlan w q → SameTo g q x → at g x < at q x → (q ≡ r) ⊎ Before r q
       at_x q Q s l =
           let up = M.least q Q (prefix_agrees T.before q (λ m z. sym (s m z))) (above_open Q l) in
           same_or (at q x) k

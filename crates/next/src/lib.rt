@@ -1,4 +1,6 @@
 // The next perfect matching after a given one (the next plan of docs/RULES.md). The tables are those of `augment`.
+#![tactic(auto)]
+
 ghost use Rattle.std.specs.Prelude.{◌≡◌, ◌≢◌, ◌≤◌, ◌<◌, length};
 ghost use Rattle.model.specs.Plans.{plans_after};
 ghost use Rattle.model.specs.PlanAnswers.{next_of, next_from};

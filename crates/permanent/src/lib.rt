@@ -1,4 +1,6 @@
 // The subset counts (the tally of docs/RULES.md), and the number of complete plans, which is the permanent of the table.
+#![tactic(auto)]
+
 ghost use Rattle.std.specs.Prelude.{◌≡◌, cond, ◌-◌, ◌^◌, ◌≤◌, ◌<◌, eqb, length, get_or};
 ghost use Rattle.model.specs.Count.{count, subset_counts};
 ghost use Rattle.model.specs.Refusal.{written};

@@ -1,1 +1,2 @@
 mod Adopts
+mod Counts

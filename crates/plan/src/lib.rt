@@ -1,5 +1,7 @@
 // A plan's record of 64 bytes: whether it is a complete plan of a rota (refusal 8), and how many of its cells are callouts. The tables
 // are those of `augment`.
+#![tactic(auto)]
+
 ghost use Rattle.std.specs.Prelude.{◌≡◌, true, false, ◌≤◌, length};
 ghost use Rattle.words.specs.Word.{bit};
 ghost use Rattle.model.specs.Plans.{IsPlan};
@@ -22,7 +24,7 @@ pub fn zeros_from(plan: [u8; 64], n: usize) -> bool
 }
 
 // What became of a record that is to be a plan.
-#[derive(Drop)]
+#[derive(Clone, Copy)]
 pub struct Adoption {
     pub ok: bool,
     pub free: u64,

@@ -1,5 +1,7 @@
 // A plan by its number, and a plan's number (unrank and rank), over a tally of the last items. Both walk through the items: the plans that go on
 // with a slot stand together in the list, in the order of the slots, and the tally has how many they are.
+#![tactic(auto)]
+
 ghost use Rattle.std.specs.Prelude.{◌≡◌, reverse, ◌^◌, ◌≤◌, ◌<◌, length, get_or, take};
 ghost use Rattle.std.specs.Int.Bits.{bit_and};
 ghost use Rattle.model.specs.Plans.{IsPlan};

@@ -5,7 +5,7 @@ use mathlib.Core.List.{List, ◌++◌}
 use Prim.Native.Nat.{ℕ, ◌≤◌, ◌<◌}
 use native.Mathlib.Omega.{arith}
 use native.Mathlib.Decide.{dec_lt}
-use lib.ListN.{length, take, drop, length-take}
+use lib.ListN.{length, take, drop}
 use Rattle.model.specs.declared.Edition.{Edition}
 use Rattle.model.specs.declared.Plan.{Plan}
 use Rattle.model.specs.declared.PlanAnswer.{PlanAnswer}
@@ -32,12 +32,9 @@ use Rattle.rota.proofs.TableCalls.{Passed, few-items, first_found, next_found, f
 pub copied_64 : (s d : List ℕ) → length s ≡ 64 → length d ≤ 64 → take (length s) s ++ drop (length s) d ≡ s
 copied_64 s d e h = copied (length s) s d refl (omega arith)
 
-pub plan-stored : (code : ℕ) (s old x : List ℕ) → code ≡ 0 → length s ≡ 64 → x ≡ take (length s) s ++ drop (length s) (take 64 old)
-    → x ++ drop 64 old ≡ written code s old
+pub plan-stored : (code : ℕ) (s old x : List ℕ) → code ≡ 0 → length s ≡ 64 → x ≡ s → x ++ drop 64 old ≡ written code s old
 unfolding written
-plan-stored code s old x z e q =
-    let f : x ≡ s = q ∙ copied_64 s (take 64 old) e (omega (arith, length-take 64 old)) in
-    ap₂ (λ y k. y ++ drop k old) f (sym e) ∙ ap (λ c. written c s old) (sym z)
+plan-stored code s old x z e f = ap₂ (λ y k. y ++ drop k old) f (sym e) ∙ ap (λ c. written c s old) (sym z)
 
 -- ---- the rota for a buffer of so many bytes
 

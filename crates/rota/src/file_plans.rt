@@ -30,7 +30,7 @@ fn plan_in(buffer: &[u8]) -> Plan
     ensures { result.slots ≡ take 64 buffer.now }
 {
     let mut slots = [0u8; 64];
-    bytes::copy(&buffer[0..64], &mut slots);
+    slots.copy_from_slice(&buffer[0..64]);
     Plan { slots }
 }
 
@@ -43,13 +43,12 @@ fn store_plan(code: u32, slots: [u8; 64], buffer: &mut [u8]) -> u32
     if code != 0 {
         return code;
     }
-    bytes::copy(&slots, &mut buffer[0..64]);
+    buffer[0..64].copy_from_slice(&slots);
     0
 }
 
 // The first plan of the rota in a file, into a plan buffer.
-#[unsafe(no_mangle)]
-pub extern "C" fn rota_file_first_plan(file: &[u8], plan: &mut [u8]) -> u32
+pub fn rota_file_first_plan(file: &[u8], plan: &mut [u8]) -> u32
     ensures code { result ≡ (file_first Edition.One file.now (length plan.old)).code }
     ensures plan { plan.new ≡ buffer_after (file_first Edition.One file.now (length plan.old)) plan.old }
 {
@@ -67,8 +66,7 @@ pub extern "C" fn rota_file_first_plan(file: &[u8], plan: &mut [u8]) -> u32
 }
 
 // The plan after the one in the buffer, into the buffer.
-#[unsafe(no_mangle)]
-pub extern "C" fn rota_file_next_plan(file: &[u8], plan: &mut [u8]) -> u32
+pub fn rota_file_next_plan(file: &[u8], plan: &mut [u8]) -> u32
     ensures code { result ≡ (file_next Edition.One file.now (length plan.old) (record { slots = take 64 plan.old })).code }
     ensures plan { plan.new ≡ buffer_after
         (file_next Edition.One file.now (length plan.old) (record { slots = take 64 plan.old })) plan.old }
@@ -88,8 +86,7 @@ pub extern "C" fn rota_file_next_plan(file: &[u8], plan: &mut [u8]) -> u32
 }
 
 // The first plan with the fewest callouts of the rota in a file, if these are at most `cap`, into a plan buffer.
-#[unsafe(no_mangle)]
-pub extern "C" fn rota_file_fewest_callouts(file: &[u8], plan: &mut [u8], cap: u32) -> u32
+pub fn rota_file_fewest_callouts(file: &[u8], plan: &mut [u8], cap: u32) -> u32
     ensures code { result ≡ (file_fewest Edition.One file.now (length plan.old) cap).code }
     ensures plan { plan.new ≡ buffer_after (file_fewest Edition.One file.now (length plan.old) cap) plan.old }
 {

@@ -7,7 +7,7 @@ use crate::plans;
 use model::{Lister, PlanAnswer};
 
 // A lister's step: the lister afterwards, and the answer.
-#[derive(Drop)]
+#[derive(Clone, Copy)]
 pub struct Stepped {
     pub lister: Lister,
     pub answer: PlanAnswer,
@@ -44,13 +44,7 @@ pub fn step(lister: Lister, n: usize, opens: &[u64], callouts: &[u64]) -> Steppe
 }
 
 // The lister's next plan. A refusal leaves the lister as it was.
-#[unsafe(no_mangle)]
-pub extern "C" fn rota_list_plan(
-    lister: &mut Lister,
-    n: usize,
-    opens: &[u64],
-    callouts: &[u64],
-) -> PlanAnswer
+pub fn rota_list_plan(lister: &mut Lister, n: usize, opens: &[u64], callouts: &[u64]) -> PlanAnswer
     ensures { (result ≡ lister_answer lister.old n n opens.now callouts.now)
         × (lister.new ≡ lister_after lister.old n n opens.now callouts.now) }
 {

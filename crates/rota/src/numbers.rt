@@ -5,8 +5,7 @@ ghost use Rattle.model.specs.NumberAnswers.{plan_at_answer, plan_at_tally, plan_
 use model::{NumberAnswer, Plan, PlanAnswer};
 
 // The plan with k plans before it.
-#[unsafe(no_mangle)]
-pub extern "C" fn rota_plan_at(
+pub fn rota_plan_at(
     n: usize,
     opens: &[u64],
     callouts: &[u64],
@@ -28,8 +27,7 @@ pub extern "C" fn rota_plan_at(
 }
 
 // How many plans stand before the given one.
-#[unsafe(no_mangle)]
-pub extern "C" fn rota_plan_number(
+pub fn rota_plan_number(
     n: usize,
     opens: &[u64],
     callouts: &[u64],

@@ -5,8 +5,7 @@ ghost use Rattle.model.specs.PlanAnswers.{first_answer, next_answer, fewest_answ
 use model::{Plan, PlanAnswer};
 
 // The first plan of a rota of n items.
-#[unsafe(no_mangle)]
-pub extern "C" fn rota_first_plan(n: usize, opens: &[u64], callouts: &[u64]) -> PlanAnswer
+pub fn rota_first_plan(n: usize, opens: &[u64], callouts: &[u64]) -> PlanAnswer
     ensures { result ≡ first_answer n n opens.now callouts.now }
 {
     let code = acceptance::table_code(n, n, opens, callouts);
@@ -17,13 +16,7 @@ pub extern "C" fn rota_first_plan(n: usize, opens: &[u64], callouts: &[u64]) -> 
 }
 
 // The plan after the given one.
-#[unsafe(no_mangle)]
-pub extern "C" fn rota_next_plan(
-    n: usize,
-    opens: &[u64],
-    callouts: &[u64],
-    given: Plan,
-) -> PlanAnswer
+pub fn rota_next_plan(n: usize, opens: &[u64], callouts: &[u64], given: Plan) -> PlanAnswer
     ensures { result ≡ next_answer n n opens.now callouts.now given }
 {
     let code = acceptance::table_code(n, n, opens, callouts);
@@ -34,13 +27,7 @@ pub extern "C" fn rota_next_plan(
 }
 
 // The first of the plans with the fewest callouts, if these are at most `cap`.
-#[unsafe(no_mangle)]
-pub extern "C" fn rota_fewest_callouts(
-    n: usize,
-    opens: &[u64],
-    callouts: &[u64],
-    cap: u32,
-) -> PlanAnswer
+pub fn rota_fewest_callouts(n: usize, opens: &[u64], callouts: &[u64], cap: u32) -> PlanAnswer
     ensures { result ≡ fewest_answer n n opens.now callouts.now cap }
 {
     let code = acceptance::table_code(n, n, opens, callouts);
@@ -51,8 +38,7 @@ pub extern "C" fn rota_fewest_callouts(
 }
 
 // The first plan that holds the item's cell of that slot; the blank plan where none does, with 0 too.
-#[unsafe(no_mangle)]
-pub extern "C" fn rota_cell_plan(
+pub fn rota_cell_plan(
     n: usize,
     opens: &[u64],
     callouts: &[u64],

@@ -5,8 +5,7 @@ ghost use Rattle.model.specs.SheetAnswers.{sheet_code, sheet_after};
 use model::Plan;
 
 // Writes the sheet of the given plan into a lent page. The plan is tested before a byte is written, so a refusal leaves the page as it was.
-#[unsafe(no_mangle)]
-pub extern "C" fn rota_plan_sheet(
+pub fn rota_plan_sheet(
     n: usize,
     opens: &[u64],
     callouts: &[u64],

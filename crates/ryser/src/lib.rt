@@ -1,5 +1,7 @@
 // The number of complete plans by Ryser's formula, with no tally. The sets of slots are gone through by what they leave out. The sums of the
 // rows, how many slots of the set are open to each item, go along: 24 bytes, in three words.
+#![tactic(auto)]
+
 ghost use Rattle.std.specs.Prelude.{◌≡◌, ◌+◌, ◌*◌, ◌%◌, ◌^◌, ◌<◌, ◌≤◌, not, length};
 ghost use Rattle.model.specs.Count.{count};
 ghost use Rattle.ryser.specs.Bytes.{bytes, multiplied, quad, some_zero, Small, SmallQuad};

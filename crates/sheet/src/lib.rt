@@ -1,4 +1,6 @@
 // The sheet of a plan, each line written into its own part of a lent page.
+#![tactic(auto)]
+
 ghost use Rattle.std.specs.Prelude.{◌≡◌, cond, ℕ, ◌+◌, ◌*◌, ◌≤◌, ◌<◌, length, get_or};
 ghost use Rattle.words.specs.Word.{has};
 ghost use Rattle.model.specs.Sheet.{line, sheet_bytes};
@@ -26,7 +28,7 @@ fn write_line(left: [u8; 2], middle: [u8; 2], mark: u8, part: &mut [u8])
     requires { length part.old ≡ 32 }
     ensures { part.new ≡ line left middle mark }
 {
-    bytes::copy(&BLANK, part);
+    part.copy_from_slice(&BLANK);
     part[0] = left[0];
     part[1] = left[1];
     part[6] = middle[0];

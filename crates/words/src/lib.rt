@@ -1,4 +1,6 @@
 // Words of 64 bits as sets of slots 0 to 63: slot j is in w if bit j of w is 1; and tables of words.
+#![tactic(auto)]
+
 ghost use Rattle.std.specs.Prelude.{◌≡◌, ◌≢◌, ◌++◌, ◌^◌, ◌≤◌, ◌<◌, length, drop};
 ghost use Rattle.std.specs.Int.Count.{ones};
 ghost use Rattle.words.specs.Word.{bit, has, with, without, low, lowest, minus, select};
