@@ -1,1 +1,1 @@
-mod Cells
+mod CellWords

@@ -1,13 +1,85 @@
-// The records that answer a call for a plan; those for the grade and the price in modules of their own.
+// The records that answer the calls: refused by a test, short of a plan, or given what was asked for. 9 and 11 stand in those alone that bring
+// figures with them, and each once.
 #![tactic(auto)]
 
-ghost use Rattle.std.specs.Prelude.{◌≡◌};
+ghost use Rattle.std.specs.Prelude.{◌≡◌, ℕ};
+ghost use Rattle.model.specs.Refusal.{number};
 ghost use Rattle.model.specs.PlanAnswers.{given, refused, short, over_cap};
 
-use model::{Plan, PlanAnswer};
+use model::{Plan, PlanAnswer, Refusal};
 
-pub mod grades;
-pub mod prices;
+mod counts;
+mod files;
+mod grades;
+mod prices;
+
+// The record of a call's answer.
+pub trait Answer: Sized {
+    // by the number of a refusal
+    ghost by_code: { ℕ → Self };
+
+    // Refused by a number that stands alone: zeros besides, and the blank plan where there is one.
+    fn refused_by(code: u32) -> Self
+        ensures { result ≡ by_code code };
+
+    // Refused by a test.
+    fn refused(refusal: Refusal) -> Self
+        ensures { result ≡ by_code (number refusal) }
+    {
+        Self::refused_by(refusal.number())
+    }
+}
+
+// One that answers a figure.
+pub trait FigureAnswer: Answer {
+    type Figure;
+
+    ghost by_figure: { Self.Figure → Self };
+
+    // Success.
+    fn given(figure: Self::Figure) -> Self
+        ensures { result ≡ by_figure figure };
+}
+
+// One of a call for which a plan must exist.
+pub trait ShortAnswer: Answer {
+    // by the shortage and the item set
+    ghost by_shortage: { ℕ → ℕ → Self };
+
+    // 9: no complete plan exists.
+    fn short(shortage: u32, items: u64) -> Self
+        ensures { result ≡ by_shortage shortage items };
+}
+
+impl Answer for PlanAnswer {
+    ghost by_code = { refused };
+
+    fn refused_by(code: u32) -> PlanAnswer {
+        PlanAnswer {
+            code,
+            shortage: 0,
+            items: 0,
+            callouts: 0,
+            plan: Plan::BLANK,
+        }
+    }
+}
+
+impl ShortAnswer for PlanAnswer {
+    ghost by_shortage = { short };
+
+    fn short(shortage: u32, items: u64) -> PlanAnswer {
+        PlanAnswer {
+            code: 9,
+            shortage,
+            items,
+            callouts: 0,
+            plan: Plan::BLANK,
+        }
+    }
+}
+
+// The other two are of this record alone, so they need no trait: its success is two things and no one figure.
 
 // Success, with a plan and the number of its callouts, or 0 where that is not asked for.
 pub fn given(slots: [u8; 64], callouts: u32) -> PlanAnswer
@@ -22,32 +94,6 @@ pub fn given(slots: [u8; 64], callouts: u32) -> PlanAnswer
     }
 }
 
-// A refusal by a number that stands alone: the blank plan and zeros.
-pub fn refused(code: u32) -> PlanAnswer
-    ensures { result ≡ refused code }
-{
-    PlanAnswer {
-        code,
-        shortage: 0,
-        items: 0,
-        callouts: 0,
-        plan: Plan { slots: [255u8; 64] },
-    }
-}
-
-// 9: no complete plan exists.
-pub fn short(shortage: u32, items: u64) -> PlanAnswer
-    ensures { result ≡ short shortage items }
-{
-    PlanAnswer {
-        code: 9,
-        shortage,
-        items,
-        callouts: 0,
-        plan: Plan { slots: [255u8; 64] },
-    }
-}
-
 // 11: the fewest number exceeds the cap.
 pub fn over_cap(number: u32) -> PlanAnswer
     ensures { result ≡ over_cap number }
@@ -57,6 +103,6 @@ pub fn over_cap(number: u32) -> PlanAnswer
         shortage: 0,
         items: 0,
         callouts: number,
-        plan: Plan { slots: [255u8; 64] },
+        plan: Plan::BLANK,
     }
 }

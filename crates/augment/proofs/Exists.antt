@@ -1,10 +1,9 @@
 -- The search as a theorem: a slot of cand can be given to an exposed item, or a closed set rules it out. For proofs that need one of
 -- the two without a program. Assumes nothing.
-use mathlib.Core.Path.{◌≡◌, refl}
+use mathlib.Core.Path.{refl}
 use mathlib.Core.Logic.{◌≢◌, ◌⊎◌, inl, inr, ⊎_elim}
 use mathlib.Core.List.{List}
 use Prim.Native.Nat.{ℕ, zero, suc, ◌+◌, ◌^◌, ◌≤◌, ◌<◌}
-use native.Mathlib.Decide.{ℕ_discrete}
 use native.Mathlib.Omega.{arith}
 use lib.Bits.{bit_or, or_lt}
 use lib.Count.{ones}
@@ -12,7 +11,7 @@ use Rattle.words.specs.Word.{minus}
 use Rattle.augment.specs.Table.{span}
 use Rattle.augment.specs.Search.{Mover, Relocatable, Relocated, Vacatable, Vacated, Certificate, Assignable, Assigned, Barred}
 use Rattle.augment.proofs.Spans.{span-from, span-lt}
-use Rattle.augment.proofs.Moves.{taken}
+use Rattle.augment.proofs.Moves.{same_or, taken}
 use Rattle.augment.proofs.Vacants.{hole-or}
 use Rattle.augment.proofs.Searches.{relocate_takeable, relocated, vacate_owners, at_hand, vacated_at_hand, Layer, layer_next}
 use Rattle.augment.proofs.Searches.{hole_takeable, hole_assigned, displace_vacatable, displace_barred, displace_takeable, displace_assigned}
@@ -44,12 +43,10 @@ module _ {w o p : List ℕ} {f set seen : ℕ} (Z : Vacatable w o p f set seen) 
   step : ((layer : ℕ) → Layer w o p f set seen layer → layer ≢ 0 → Outcome w o p f layer (bit_or seen layer)) → Outcome w o p f set seen
   step ih = ⊎_elim
       (λ r. let A = at_hand Z refl r.1 in inl (record { owner = _; slot = _; free = _; at = _; holds = vacated_at_hand Z A (relocate A).holds }))
-      (λ none. let L = layer_next Z refl fits refl none in go L (ℕ_discrete (minus (span w o set) seen) 0))
+      (λ none.
+      let L = layer_next Z refl fits refl none in
+      same_or (minus (span w o set) seen) 0 (λ e. inr (seen, fits, L.done e)) (λ z. onward L (ih _ L z)))
       (hole-or (span w o set) f (span-lt w o set (vacate_owners Z)))
-    where
-      go : Layer w o p f set seen (minus (span w o set) seen) → Dec (minus (span w o set) seen ≡ 0) → Outcome w o p f set seen
-      go L (yes e) = inr (seen, fits, L.done e)
-      go L (no z) = onward L (ih _ L z)
 
 vacate : (fuel : ℕ) {w o p : List ℕ} {f set seen : ℕ} → 64 ≤ ones seen + fuel → seen < 2 ^ 64 → Vacatable w o p f set seen → Outcome w o p f set seen
 vacate zero enough fits Z = step Z fits (λ l L z. absurd (omega (arith, L.more z)))

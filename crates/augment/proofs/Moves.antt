@@ -1,26 +1,22 @@
 -- The two moves of which every change of a table is made: a slot is released, and an exposed item takes a free slot.
 -- Assumes nothing.
-use mathlib.Core.Path.{◌≡◌, sym, ap, ◌∙◌, subst}
-use mathlib.Core.Logic.{◌≢◌}
+use mathlib.Core.Path.{◌≡◌, refl, sym, ap, ◌∙◌, subst}
+use mathlib.Core.Logic.{◌≢◌, ⊎_elim}
 use mathlib.Core.List.{List}
-use Prim.Native.Nat.{ℕ, ◌≤◌, ◌<◌}
-use native.Mathlib.Decide.{ℕ_discrete}
+use Prim.Native.Nat.{ℕ, ◌^◌, ◌≤◌, ◌<◌}
 use native.Mathlib.Omega.{arith}
-use lib.ListN.{length, set, length-set}
+use lib.ListN.{length, get_or, set, length-set, replicate, get_or-replicate}
 use lib.Seq.{get_or-set_same, get_or-set_other}
-use Rattle.words.specs.Word.{bit, with, without}
-use Rattle.words.proofs.Bits.{bit-lt, at_slot, bit-with, bit-with_other, bit-without, bit-without_other}
+use Rattle.std.proofs.lemmas.Bool.{cases_eq}
+use Rattle.words.specs.Word.{bit, with, without, low}
+use Rattle.words.proofs.Bits.{bit-lt, bit-low, at_slot, bit-with, bit-with_other, bit-without, bit-without_other}
 use Rattle.words.proofs.SetLaws.{bit-with-le}
 use Rattle.augment.specs.Table.{own, at, cell, Table, Matched, Exposed}
 use Rattle.augment.specs.Search.{Takeable, Taken}
 
 -- one of two cases
 pub same_or : {A : Type 0} (k l : ℕ) → (k ≡ l → A) → (k ≢ l → A) → A
-same_or {A} k l f g = go (ℕ_discrete k l)
-  where
-    go : Dec (k ≡ l) → A
-    go (yes e) = f e
-    go (no d) = g d
+same_or k l f g = ⊎_elim f g (cases_eq k l)
 
 -- a bound of a bit that is 1 is one of the bit
 pub bit_le : (a k b : ℕ) → (bit a k ≡ 1 → 1 ≤ b) → bit a k ≤ b
@@ -100,3 +96,21 @@ module _ {w o p : List ℕ} {f : ℕ} (T : Table w o p f) where
 
 pub taken : {w o p : List ℕ} {f x h : ℕ} → Takeable w o p f x h → Taken w o p f x h (set o h x) (set p x h) (without f h)
 taken {x = x} {h = h} K = take K.table x h K.known K.exposed K.below K.hole K.may
+
+-- ---- no item holds a slot
+
+pub empty_table : (w : List ℕ) → length w ≤ 64 → ((x : ℕ) → x < length w → get_or w x 0 < 2 ^ 64) → Table w (replicate 64 0) (replicate 64 0) (low 64)
+empty_table w few range =
+    record {
+      few = few;
+      range = range;
+      owners = refl;
+      slots = refl;
+      item = λ k h b. absurd (omega (arith, bit-low 64 k h));
+      open_cell = λ k h b. absurd (omega (arith, bit-low 64 k h));
+      back = λ k h b. absurd (omega (arith, bit-low 64 k h));
+      zeros = λ x h g. get_or-replicate 64 x 0 0 g;
+    }
+
+pub empty-exposed : (x : ℕ) → Exposed (replicate 64 0) (replicate 64 0) (low 64) x
+empty-exposed x M = omega (arith, M.held, bit-low 64 (at (replicate 64 0) x) M.slot)

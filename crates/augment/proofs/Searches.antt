@@ -11,9 +11,10 @@ use Rattle.words.specs.Word.{bit, with, minus, lowest}
 use Rattle.words.proofs.Bits.{bit-lt, bit_empty, bit-or, bit-minus, bit-with, bit-with_other}
 use Rattle.words.proofs.SetLaws.{bit-with-le, minus-le, ones_proper, lowest-lt, bit-lowest, Common}
 use Rattle.augment.specs.Table.{own, cell, Table, Matched, Owners, span}
-use Rattle.augment.specs.Search.{Takeable, Taken, Movable, Mover, Relocatable, Relocated, Vacatable, Vacated, Certificate, Assignable, Assigned, Barred}
+use Rattle.augment.specs.Search.{UnheldIn, Takeable, Taken, Movable, Mover, Relocatable, Relocated, Vacatable, Vacated, Certificate, Assignable, Assigned, Barred}
 use Rattle.augment.proofs.Spans.{span_into, span-from, span-lt}
 use Rattle.augment.proofs.Moves.{same_or, bit_le, Released, holder_matched, release}
+use Rattle.augment.proofs.Vacants.{unheld-none, hole}
 
 -- the slots of a set that are held have owners
 pub table-owners : {w o p : List ℕ} {f : ℕ} → Table w o p f → (set : ℕ) → ((k : ℕ) → k < 64 → bit set k ≡ 1 → bit f k ≡ 0) → Owners w o set
@@ -192,6 +193,14 @@ module _ {w o p : List ℕ} {f set' seen : ℕ} (Z : Vacatable w o p f set' seen
                 };
             vacated = λ U P. vacated_by (kept_seen U) U.fewer U.stay U.new P;
           }
+
+    -- the same from the word of the slots that are reached and free, as the program has it
+    module _ {hit : ℕ} (G : UnheldIn o p f reach hit) where
+      pub word_at_hand : {h : ℕ} → hit < 2 ^ 64 → hit ≢ 0 → h ≡ lowest hit → Relocatable w o p f set' h
+      word_at_hand l z e = at_hand (hole Z.table G l z e)
+
+      pub word_layer : seen < 2 ^ 64 → {layer : ℕ} → layer ≡ minus reach seen → hit ≡ 0 → Layer w o p f set' seen layer
+      word_layer fits el z = layer_next fits el (unheld-none Z.table G z)
 
 -- ---- displace
 

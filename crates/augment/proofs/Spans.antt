@@ -41,7 +41,6 @@ pub record MoveTurn (w o : List ℕ) (set h left k y : ℕ) : Type 0 where
   pub below : k < 64
   pub item : y < length w
   pub found : cell w y h ≡ 1 → Mover w o set h k
-  pub less : without left (lowest left) < left
   pub next : cell w y h ≡ 0 → Moving w o set h (without left (lowest left))
 
 pub moving_start : {w o : List ℕ} {set h : ℕ} → Movable w o set h → set < 2 ^ 64 → Moving w o set h set
@@ -60,7 +59,6 @@ module _ {w o : List ℕ} {set h left : ℕ} (S : Moving w o set h left) where
         below = t.below;
         item = S.owners.item k t.below t.from;
         found = λ b. record { below = t.below; from = t.from; may = b };
-        less = t.less;
         next = λ b. let pick = joined_pick (held_open w o) 64 left k h t.below t.here in
             record { owners = S.owners; walk = t.next; reached = omega (arith, S.reached, pick) };
       })

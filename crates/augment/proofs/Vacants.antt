@@ -3,7 +3,6 @@ use mathlib.Core.Path.{◌≡◌, refl, ap}
 use mathlib.Core.Logic.{◌≢◌, ◌⊎◌, inl, inr}
 use mathlib.Core.List.{List}
 use Prim.Native.Nat.{ℕ, ◌^◌, ◌<◌, min}
-use native.Mathlib.Decide.{ℕ_discrete}
 use native.Mathlib.Omega.{arith}
 use lib.Bits.{bit_and, and_le_l}
 use Rattle.words.specs.Word.{bit, lowest}
@@ -15,11 +14,10 @@ use Rattle.augment.proofs.Moves.{same_or, holder_matched}
 
 -- a slot of a word is free, or none is
 pub hole-or : (word f : ℕ) → word < 2 ^ 64 → ((h : ℕ) × Common word f h) ⊎ ((k : ℕ) → k < 64 → bit word k ≡ 1 → bit f k ≡ 0)
-hole-or word f l = go (ℕ_discrete (bit_and word f) 0)
-  where
-    go : Dec (bit_and word f ≡ 0) → ((h : ℕ) × Common word f h) ⊎ ((k : ℕ) → k < 64 → bit word k ≡ 1 → bit f k ≡ 0)
-    go (yes z) = inr (λ k h b. omega (arith, bit-and word f k, ap (λ x. bit x k) z, bit_empty k, bit-lt f k))
-    go (no z) = inl (lowest (bit_and word f), common (λ k h. bit-and word f k) (omega (arith, and_le_l word f)) z refl)
+hole-or word f l =
+    same_or (bit_and word f) 0
+    (λ z. inr (λ k h b. omega (arith, bit-and word f k, ap (λ x. bit x k) z, bit_empty k, bit-lt f k)))
+    (λ z. inl (lowest (bit_and word f), common (λ k h. bit-and word f k) (omega (arith, and_le_l word f)) z refl))
 
 -- nobody holds a free slot
 pub free-unheld : {o p : List ℕ} {f k : ℕ} → bit f k ≡ 1 → Unheld o p f k

@@ -98,11 +98,6 @@ pub record Certificate (w o : List ℕ) (f set seen t : ℕ) : Type 0 where
       → ((k : ℕ) → k < 64 → bit g k ≡ 1 → bit t k ≡ 1 → bit seen k ≤ bit set k → Within (get_or w (own o k) 0) g)
       → Within t g
 
--- the tables are as they were
-pub record Same (o p o' p' : List ℕ) : Type 0 where
-  pub owner : o' ≡ o
-  pub slot : p' ≡ p
-
 -- ---- displace
 
 -- item x is exposed, and may use the slots of cand; those of `fixed` are held, and none of them is in cand

@@ -1,4 +1,5 @@
-// A cell's plan (docs/RULES.md): the least perfect matching that holds a given cell. The tables are those of `augment`.
+// A cell's plan (docs/RULES.md): the least perfect matching that holds a given cell. The matchings are those of `augment`.
+// At most 64 words are asked of a plain slice: a type that held the fact would ask more of callers, and docs/ names functions here.
 #![tactic(auto)]
 
 ghost use Rattle.std.specs.Prelude.{◌≡◌, ◌≤◌, length};
@@ -7,18 +8,18 @@ ghost use Rattle.model.specs.CellPlans.{cell_plan};
 ghost use Rattle.model.specs.PlanAnswers.{given};
 ghost use Rattle.cell.specs.Cut.{OpenCell, Cut};
 
-use model::PlanAnswer;
+use augment::Matching;
+use model::{Plan, PlanAnswer};
 
 // Open words whose plans are those that hold the cell: its item may use its slot alone, and no other item may use that.
 fn cut(opens: &[u64], item: usize, slot: usize) -> [u64; 64]
     requires { OpenCell opens.now item slot }
     ensures { Cut opens.now item slot result }
 {
+    // no heap: room for the most items
     let mut table = [0u64; 64];
-    let mut i = 0;
-    while i < opens.len() {
-        table[i] = words::without(opens[i], slot);
-        i += 1;
+    for (i, word) in opens.iter().enumerate() {
+        table[i] = words::without(*word, slot);
     }
     table[item] = words::single(slot);
     table
@@ -28,7 +29,7 @@ fn cut(opens: &[u64], item: usize, slot: usize) -> [u64; 64]
 fn unused() -> PlanAnswer
     ensures { result ≡ given blank 0 }
 {
-    answers::given([255u8; 64], 0)
+    answers::given(Plan::BLANK.slots, 0)
 }
 
 // The first plan that holds an open cell, or the blank plan. The item has the slot from the start, and the others are served around it.
@@ -36,20 +37,17 @@ fn open_cell_plan(opens: &[u64], item: usize, slot: usize) -> PlanAnswer
     requires { OpenCell opens.now item slot }
     ensures { result ≡ given (cell_plan 64 opens.now item slot) 0 }
 {
-    let n = opens.len();
     let table = cut(opens, item, slot);
-    let mut owner = [0u8; 64];
-    let mut held = [0u8; 64];
-    owner[slot] = item as u8;
-    held[item] = slot as u8;
-    let free = words::without(words::low(64), slot);
-    let wanting = words::without(words::low(n), item);
-    let m = maximum::fill(&table[..n], &mut owner, &mut held, free, wanting);
-    if m.exposed != 0 {
+    let cells = &table[..opens.len()];
+    let mut m = Matching::empty();
+    m.take(cells, item, slot);
+    let others = words::without(words::low(opens.len()), item);
+    let left = maximum::fill(&mut m, cells, others);
+    if left.exposed != 0 {
         return unused();
     }
-    least::settle(&table[..n], &mut owner, &mut held, m.free, 0, 0);
-    answers::given(held, 0)
+    least::settle(&mut m, cells, 0, 0);
+    answers::given(m.slot, 0)
 }
 
 // The first plan that holds the cell, or the blank plan.
@@ -57,14 +55,8 @@ pub fn cell_plan(opens: &[u64], item: usize, slot: usize) -> PlanAnswer
     requires { length opens.now ≤ 64 }
     ensures { result ≡ given (cell_plan 64 opens.now item slot) 0 }
 {
-    if item >= opens.len() {
-        return unused();
+    if item < opens.len() && slot < 64 && words::has(opens[item], slot) {
+        return open_cell_plan(opens, item, slot);
     }
-    if slot >= 64 {
-        return unused();
-    }
-    if !words::has(opens[item], slot) {
-        return unused();
-    }
-    open_cell_plan(opens, item, slot)
+    unused()
 }

@@ -21,7 +21,6 @@ pub record Visit (w o : List ℕ) (held s : ℕ) (a₀ a : List ℕ) (left k y :
   pub below : k < 64
   pub item : y < length w
   pub room : y < 64
-  pub less : without left (lowest left) < left
   pub next : Marking w o held s a₀ (set a y (bit_and (get_or w y 0) s)) (without left (lowest left))
 
 pub marking-start : {w o : List ℕ} {held s : ℕ} {a₀ : List ℕ} → Owners w o held → held < 2 ^ 64 → length a₀ ≡ 64 → Marking w o held s a₀ a₀ held
@@ -40,7 +39,6 @@ module _ {w o : List ℕ} {held s : ℕ} {a₀ a : List ℕ} {left : ℕ} (S : M
         below = t.below;
         item = item;
         room = room;
-        less = t.less;
         next = record {
           owners = S.owners;
           walk = t.next;

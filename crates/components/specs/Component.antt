@@ -1,4 +1,4 @@
--- The allowed cells of a complete table, and what the search for strongly connected components asks and promises. w, o, f as in
+-- The allowed cells of a complete matching, and what the search for strongly connected components asks and promises. w, o, f as in
 -- augment's Table; a the answer so far. Assumes nothing.
 use Rattle.std.specs.Prelude.{◌≡◌, ◌≢◌, List, ℕ, ◌+◌, ◌≤◌, ◌<◌, max, length, get_or}
 use Rattle.std.specs.Int.Bits.{bit_and}

@@ -5,14 +5,16 @@ use mathlib.Core.List.{List, ◌++◌}
 use Prim.Native.Nat.{ℕ, ◌+◌, ◌-◌, ◌*◌, ◌≤◌, ◌<◌}
 use native.Mathlib.Omega.{arith}
 use lib.Dec.{eqb}
-use lib.ListN.{length, get_or, take, drop, replicate, length-take, length-drop, take-append-drop}
+use lib.ListN.{length, get_or, take, drop, replicate, length-take, length-drop, length-append, take-append-drop}
 use lib.Seq.{take_all, get_or-take}
+use Rattle.std.specs.Cmp.Lexicographic.{pointwise}
 use Rattle.model.specs.declared.Edition.{Edition}
 use Rattle.model.specs.Lists.{same}
 use Rattle.model.specs.File.{from_bytes, mark, header, items_of, unused, check_of, check_wrong, block_laid}
 use Rattle.model.proofs.Members.{same-append, same-eq}
 use Rattle.model.proofs.Parts.{drop-take}
-use Rattle.model.proofs.Editions.{header-number, header_marked}
+use Rattle.model.proofs.Editions.{header-length, header-number, header_marked}
+use Rattle.file_blocks.proofs.Comparing.{same_is}
 
 module _ (e : Edition) (block : List ℕ) (long : length block ≡ 512) where
   pub wrong_is : not (eqb (from_bytes (take 2 (drop 510 block))) (check_of e (take 510 block))) ≡ check_wrong e block
@@ -59,10 +61,14 @@ module _ (e : Edition) (head : List ℕ) (n m b k : ℕ) (long : length head ≡
   head_parts rest fields =
       ap₂ same (sym (take-append-drop 4 head)) (sym fields) ∙ same-append (take 4 head) (drop 4 head) mark rest (omega (arith, length-take 4 head))
 
-  pub head_rest : (rest : List ℕ) → mark ++ rest ≡ header e n m b k → same (take 4 head) mark ≡ true
-      → same (take 10 (drop 4 head)) rest ≡ same head (header e n m b k)
+  pub head_rest : (rest : List ℕ) → mark ++ rest ≡ header e n m b k → pointwise eqb mark (take 4 head) ≡ true
+      → pointwise eqb rest (drop (length head - length rest) head) ≡ same head (header e n m b k)
+  unfolding mark
   head_rest rest fields q =
-      ap (λ l. same l rest) (take_all 10 (drop 4 head) (omega (arith, length-drop 4 head))) ∙ sym (head_parts rest fields ∙ ap (◌&& same (drop 4 head) rest) q)
+      let four : length head - length rest ≡ 4 = omega (arith, ap length fields, length-append mark rest, header-length e n m b k) in
+      rw four (sym (head_parts rest fields ∙ ap₂ ◌&&◌ (same_is (take 4 head) mark ∙ q) (same_is (drop 4 head) rest)))
 
-  pub head_mark : same (take 4 head) mark ≡ false → false ≡ same head (header e n m b k)
-  head_mark q = let f = header_marked e n m b k in sym (head_parts f.0 f.1 ∙ ap (◌&& same (drop 4 head) f.0) q)
+  pub head_mark : pointwise eqb mark (take 4 head) ≡ false → false ≡ same head (header e n m b k)
+  head_mark q =
+      let f = header_marked e n m b k in
+      sym (head_parts f.0 f.1 ∙ ap (◌&& same (drop 4 head) f.0) (same_is (take 4 head) mark ∙ q))

@@ -1,4 +1,4 @@
-mod Comparing
-mod Layouts
+pub mod Comparing
+pub mod Layouts
 mod OneBlock
 mod Checking

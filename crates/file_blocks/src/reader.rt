@@ -1,4 +1,5 @@
-// The block reader keeps the lent file and the next block's number. Its functions are thin: `check_at` does the work.
+// The block reader keeps the lent file and the next block's number. Its methods are thin: `check_at` does the work. This is a form that document 01
+// names (docs/CLAIMS.md), so it is no Iterator.
 ghost use Rattle.std.specs.Prelude.{◌≡◌, ◌+◌, ◌/◌, ◌<◌, ◌^◌, length};
 ghost use Rattle.file_blocks.specs.Blocks.{combined, checked_at, all_checked};
 
@@ -12,7 +13,8 @@ pub struct BlockReader<'a> {
     pub next: usize,
 }
 
-// What the tests of blocks found: a check is wrong; all are laid out.
+// What the tests of blocks found: a check is wrong; all are laid out. Two flags and no Result, since a wrong check in a later block is
+// answered before an earlier block's layout (docs/RULES.md, 13 and 14), and both go on to be joined: an enum with an order says it no plainer.
 #[derive(Clone, Copy)]
 pub struct Checked {
     pub wrong: bool,
@@ -35,29 +37,31 @@ pub fn check_at(edition: Edition, file: &[u8], b: usize, before: Checked) -> Che
     }
 }
 
-// A reader at a file's first block.
-pub fn start<'a>(file: &'a [u8]) -> BlockReader<'a>
-    ensures { (result.file ≡ file.entry) × (result.next ≡ 0) }
-{
-    BlockReader { file, next: 0 }
-}
+impl<'a> BlockReader<'a> {
+    // A reader at a file's first block.
+    pub fn start(file: &'a [u8]) -> BlockReader<'a>
+        ensures { (result.file ≡ file.entry) × (result.next ≡ 0) }
+    {
+        BlockReader { file, next: 0 }
+    }
 
-// The tests of the reader's next block, combined with what was found before.
-pub fn check<'a>(edition: Edition, r: BlockReader<'a>, before: Checked) -> Checked
-    requires { r.next < length r.file.now / 512 }
-    ensures { result ≡ combined before (checked_at edition r.entry.file.now r.entry.next) }
-{
-    check_at(edition, r.file, r.next, before)
-}
+    // The tests of its next block, combined with what was found before.
+    pub fn check(self, edition: Edition, before: Checked) -> Checked
+        requires { self.next < length self.file.now / 512 }
+        ensures { result ≡ combined before (checked_at edition self.entry.file.now self.entry.next) }
+    {
+        check_at(edition, self.file, self.next, before)
+    }
 
-// The reader, moved on to the block after.
-pub fn advanced<'a>(r: BlockReader<'a>) -> BlockReader<'a>
-    requires { r.next + 1 < 2 ^ 64 }
-    ensures { (result.file ≡ r.entry.file) × (result.next ≡ r.entry.next + 1) }
-{
-    BlockReader {
-        file: r.file,
-        next: r.next + 1,
+    // Itself, moved on to the block after.
+    pub fn advanced(self) -> BlockReader<'a>
+        requires { self.next + 1 < 2 ^ 64 }
+        ensures { (result.file ≡ self.entry.file) × (result.next ≡ self.entry.next + 1) }
+    {
+        BlockReader {
+            next: self.next + 1,
+            ..self
+        }
     }
 }
 
@@ -65,15 +69,14 @@ pub fn advanced<'a>(r: BlockReader<'a>) -> BlockReader<'a>
 pub fn check_blocks(edition: Edition, file: &[u8]) -> Checked
     ensures { result ≡ all_checked edition file.now }
 {
-    let k = file.len() / 512;
-    let mut r = start(file);
-    let mut c = Checked {
+    let mut reader = BlockReader::start(file);
+    let mut found = Checked {
         wrong: false,
         laid: true,
     };
-    while r.next < k {
-        c = check(edition, r, c);
-        r = advanced(r);
+    for _ in 0..file.len() / 512 {
+        found = reader.check(edition, found);
+        reader = reader.advanced();
     }
-    c
+    found
 }

@@ -1,2 +1,2 @@
 mod ByEdition
-mod Turns
+pub mod Library

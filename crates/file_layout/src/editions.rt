@@ -8,28 +8,35 @@ use model::Edition;
 // What every header begins with.
 pub const MARK: [u8; 4] = *b"ROTA";
 
-// The ten bytes of a header after the mark, of block b with k items of a rota of n items and m slots. Edition 1 does not tell m.
-#[tactic(auto, using(crate::proofs::ByEdition::fields_are))]
-pub fn fields(edition: Edition, n: u8, m: u8, b: u8, k: u8) -> [u8; 10]
-    ensures { mark ++ result ≡ header edition n m b k }
-{
-    match edition {
-        Edition::One => [1, n, b, k, 0, 0, 0, 0, 0, 0],
+// What a header tells: it is of block b, with k items, of a rota of n items and m slots.
+#[derive(Clone, Copy)]
+pub struct Header {
+    pub n: u8,
+    pub m: u8,
+    pub b: u8,
+    pub k: u8,
+}
+
+impl Header {
+    // Its ten bytes after the mark. Edition 1 does not tell m.
+    #[tactic(auto, using(crate::proofs::ByEdition::fields_are))]
+    pub fn fields(self, edition: Edition) -> [u8; 10]
+        ensures { mark ++ result ≡ header edition self.n self.m self.b self.k }
+    {
+        let Header { n, b, k, .. } = self;
+        match edition {
+            Edition::One => [1, n, b, k, 0, 0, 0, 0, 0, 0],
+        }
     }
 }
 
 // The sum of some bytes.
+#[tactic(auto, using(crate::proofs::Library::sum_is))]
 fn sum_of(bytes: &[u8]) -> u64
     requires { length bytes.now ≤ 510 }
     ensures { result ≡ total (λ b. b) bytes.now }
 {
-    let mut sum: u64 = 0;
-    let mut i = 0;
-    while i < bytes.len() {
-        sum += words::wide(bytes[i]) as u64;
-        i += 1;
-    }
-    sum
+    bytes.iter().map(|b| u64::from(*b)).sum()
 }
 
 // The check of bytes 0 to 509 of a block.

@@ -13,7 +13,7 @@ pub fn blocks_for(n: usize) -> usize
     requires { n ≤ 64 }
     ensures { (result ≡ blocks_for n) × (result ≤ 3) }
 {
-    (n + 30) / 31
+    n.div_ceil(31)
 }
 
 // The items in block b of a rota of n.
@@ -22,9 +22,5 @@ pub fn items_of(n: usize, b: usize) -> usize
     requires { b ≤ 255 }
     ensures { (result ≡ items_of n b) × (result ≤ 31) }
 {
-    if n <= 31 * b {
-        return 0;
-    }
-    let left = n - 31 * b;
-    if left < 31 { left } else { 31 }
+    n.saturating_sub(31 * b).min(31)
 }

@@ -2,15 +2,22 @@
 use mathlib.Core.Path.{◌≡◌, sym, ap, ap₂, ◌∙◌}
 use mathlib.Core.List.{List, ◌++◌, append-nil, append_assoc, flatten}
 use Prim.Native.Nat.{ℕ, suc, ◌+◌, ◌-◌, ◌*◌, ◌≤◌, ◌<◌, min}
+use native.Mathlib.Nat.{zero-add}
 use native.Mathlib.Numerals.{add-one}
 use native.Mathlib.Omega.{arith}
 use borrow.Rule.Slice.PartMut.{put_mid as put}
 use lib.ListN.{length, get_or, take, drop, replicate, length-append, length-take, length-drop, drop_of_length-le}
-use lib.Seq.{take_all, take_at, drop_at, take-take, drop-drop, drop-cons, length-take-le}
+use lib.Seq.{take_all, take_at, take-take, drop-drop, drop-cons}
+use Rattle.std.specs.Int.{bytes_low_first}
+use Rattle.std.specs.List.{zip, enumerate_from}
+use Rattle.std.proofs.lemmas.List.{get_or_default}
+use Rattle.std.proofs.lemmas.List.FromFn.{length-enumerate_from, get_or-enumerate_from}
+use Rattle.std.proofs.lemmas.Slice.Zip.{length-zip, get_or-zip}
 use Rattle.model.specs.declared.Edition.{Edition}
 use Rattle.model.specs.File.{low_bytes, mark, blocks_for, items_of, header, item_bytes, unused, check_of, body, checked, blocks, file_bytes}
 use Rattle.model.proofs.Parts.{put_last, put_front, put_more, put_length}
 use Rattle.model.proofs.Editions.{header-length}
+use Rattle.file_layout.proofs.Library.{low_is}
 use Rattle.model.proofs.FileBlocks.{low-length, items-length, body-length}
 
 -- ---- two parts
@@ -22,15 +29,9 @@ put_two a n old x y h e =
 
 -- ---- an item, a header
 
-pub item-written : (w c : ℕ) (out x y : List ℕ) → length out ≡ 16 → x ≡ low_bytes (length (take 8 out)) w
-    → y ≡ low_bytes (length (take 8 (drop 8 (x ++ drop 8 out)))) c → put 8 8 (x ++ drop 8 out) y ≡ low_bytes 8 w ++ low_bytes 8 c
-item-written w c out x y h p q =
-    let s : length (take 8 out) ≡ 8 = length-take-le 8 out (omega arith) in
-    let a : x ≡ low_bytes 8 w = p ∙ ap (λ k. low_bytes k w) s in
-    let d : length x ≡ 8 = ap length a ∙ low-length 8 w in
-    let r : drop 8 (x ++ drop 8 out) ≡ drop 8 out = drop_at x (drop 8 out) 8 d in
-    let z : length (take 8 (drop 8 (x ++ drop 8 out))) ≡ 8 = ap (λ l. length (take 8 l)) r ∙ length-take-le 8 (drop 8 out) (omega (arith, length-drop 8 out)) in
-    put_two 8 8 out x y h d ∙ ap₂ ◌++◌ a (q ∙ ap (λ k. low_bytes k c) z)
+pub item-written : (w c : ℕ) (out x y : List ℕ) → length out ≡ 16 → x ≡ bytes_low_first 0 8 w → y ≡ bytes_low_first 0 8 c
+    → put 8 8 (x ++ drop 8 out) y ≡ low_bytes 8 w ++ low_bytes 8 c
+item-written w c out x y h p q = put_two 8 8 out x y h (ap length p) ∙ ap₂ ◌++◌ (p ∙ sym (low_is 8 w)) (q ∙ sym (low_is 8 c))
 
 pub header-written : (e : Edition) (n m b k : ℕ) (rest out x y : List ℕ) → length out ≡ 14 → mark ++ rest ≡ header e n m b k → x ≡ mark → y ≡ rest
     → put 4 10 (x ++ drop 4 out) y ≡ header e n m b k
@@ -65,6 +66,36 @@ items_done opens callouts out i s e inv =
     sym (inv ∙ ap (λ l. take (16 * i) out ++ item_bytes l (drop i callouts)) (drop_of_length-le opens {i = i} (omega arith))
     ∙ append-nil (take (16 * i) out) ∙ take_all (16 * i) out (omega arith))
 
+-- the item that the loop takes in turn k, of those that `zip` and `enumerate` put together
+module _ (opens callouts : List ℕ) (both : length callouts ≡ length opens) (k : ℕ) where
+  abbrev all : List (ℕ × (ℕ × ℕ))
+  all = enumerate_from 0 (zip opens callouts)
+
+  long : length all ≡ length opens
+  long = length-enumerate_from 0 (zip opens callouts) ∙ length-zip opens callouts ∙ omega arith
+
+  module _ (i w c : ℕ) (h : k < length all) (e : ◌≡◌ {A = ℕ × (ℕ × ℕ)} (i, (w, c)) (get_or all k (i, (w, c)))) where
+    pub there : k < length opens
+    there = omega (arith, long)
+
+    at : ◌≡◌ {A = ℕ × (ℕ × ℕ)} (i, (w, c)) (k, (get_or opens k w, get_or callouts k c))
+    at =
+        e ∙ get_or-enumerate_from 0 (zip opens callouts) k (i, (w, c)) (omega (arith, there, length-zip opens callouts))
+        ∙ ap₂ (λ j p. (j, p)) (zero-add k) (get_or-zip opens callouts k (w, c) there (omega (arith, there)))
+
+    pub items_turn : (out y : List ℕ) → length out ≡ 16 * length opens
+        → item_bytes opens callouts ≡ take (16 * k) out ++ item_bytes (drop k opens) (drop k callouts)
+        → y ≡ low_bytes 8 w ++ low_bytes 8 c → let next = put (16 * i) (16 * i + 16 - 16 * i) out y in
+        (length next ≡ length out) × (item_bytes opens callouts ≡ take (16 * (k + 1)) next ++ item_bytes (drop (k + 1) opens) (drop (k + 1) callouts))
+    items_turn out y s inv q =
+        let word : w ≡ get_or opens k 0 = ap (λ p. p.1.0) at ∙ get_or_default opens k w 0 there in
+        let callout : c ≡ get_or callouts k 0 = ap (λ p. p.1.1) at ∙ get_or_default callouts k c 0 (omega (arith, there)) in
+        rw (ap (λ p. p.0) at) (items_more opens callouts out y k both s there inv (q ∙ ap₂ (λ x z. low_bytes 8 x ++ low_bytes 8 z) word callout))
+
+  pub items_end : (out : List ℕ) → length out ≡ 16 * length opens → k ≡ length all
+      → item_bytes opens callouts ≡ take (16 * k) out ++ item_bytes (drop k opens) (drop k callouts) → out ≡ item_bytes opens callouts
+  items_end out s e inv = items_done opens callouts out k s (e ∙ long) inv
+
 -- ---- a block
 
 -- header, items and zeros one after the other
@@ -93,15 +124,13 @@ body-written e n m b opens callouts out head items zeros few both s p q z =
 
 pub block_written : (e : Edition) (n m b : ℕ) (opens callouts block bytes two : List ℕ) (check : ℕ) → length opens ≤ 31 → length callouts ≡ length opens
     → length block ≡ 512 → bytes ≡ body e n m b opens callouts → let first = bytes ++ drop 510 block in check ≡ check_of e (take 510 first)
-    → two ≡ low_bytes (length (take 2 (drop 510 first))) check → put 510 2 first two ≡ checked e (body e n m b opens callouts)
+    → two ≡ bytes_low_first 0 2 check → put 510 2 first two ≡ checked e (body e n m b opens callouts)
 unfolding checked
 block_written e n m b opens callouts block bytes two check few both s p q r =
     let long : length bytes ≡ 510 = ap length p ∙ body-length e n m b opens callouts both few in
     let c : check ≡ check_of e bytes = q ∙ ap (check_of e) (take_at bytes (drop 510 block) 510 long) in
-    let l : length (take 2 (drop 510 (bytes ++ drop 510 block))) ≡ 2 =
-    ap (λ t. length (take 2 t)) (drop_at bytes (drop 510 block) 510 long) ∙ length-take-le 2 (drop 510 block) (omega (arith, length-drop 510 block)) in
     put_two 510 2 block bytes two s long
-    ∙ ap₂ ◌++◌ p (r ∙ ap₂ low_bytes l c ∙ ap (λ t. low_bytes 2 (check_of e t)) p)
+    ∙ ap₂ ◌++◌ p (r ∙ sym (low_is 2 check) ∙ ap (low_bytes 2) c ∙ ap (λ t. low_bytes 2 (check_of e t)) p)
 
 -- ---- all blocks
 

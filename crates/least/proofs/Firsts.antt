@@ -46,9 +46,10 @@ settled_before {from} {r} S {q} Q A = go (before_trichotomy q r (Q.sized ∙ sym
 
 -- ---- the answers
 
-module _ (w : List ℕ) (few : length w ≤ 64) (range : (x : ℕ) → x < length w → get_or w x 0 < 2 ^ 64) where
-  pub first_found : {p r : List ℕ} → Settled w p 0 r → given r 0 ≡ first_from 64 w
-  first_found {p} {r} S = sym (first-of 64 w few range r S.plan (λ q Q. settled_before S Q (λ l h. absurd (omega arith))))
+pub first_found : (w : List ℕ) → length w ≤ 64 → ((x : ℕ) → x < length w → get_or w x 0 < 2 ^ 64) → {p r : List ℕ} → Settled w p 0 r
+    → given r 0 ≡ first_from 64 w
+first_found w few range {p} {r} S = sym (first-of 64 w few range r S.plan (λ q Q. settled_before S Q (λ l h. absurd (omega arith))))
 
-  pub first-none : {o p : List ℕ} {f e d : ℕ} → Filled w o p f e d → e ≢ 0 → deficient_by o e d ≡ first_from 64 w
-  first-none {o} {p} {f} {e} {d} F some = deficient_answer w o p f e d F ∙ sym (first_of-none 64 w few range (exposed_no_plan w o p f e d F some))
+pub first-none : {w o p : List ℕ} {f e d : ℕ} → Filled w o p f e d → e ≢ 0 → deficient_by o e d ≡ first_from 64 w
+first-none {w} {o} {p} {f} {e} {d} F some =
+    deficient_answer w o p f e d F ∙ sym (first_of-none 64 w F.table.few F.table.range (exposed_no_plan w o p f e d F some))

@@ -18,8 +18,8 @@ use Rattle.augment.proofs.Moves.{same_or}
 use Rattle.augment.proofs.Vacants.{unheld_part, unheld-bit, unheld-none}
 use Rattle.augment.proofs.Bars.{Shut}
 use Rattle.augment.proofs.Completes.{complete-plan}
-use Rattle.least.specs.Least.{Fixed, Shifted, Lowerable, Lowered, LaterWithin, Prefix, Minimizable, Settleable, SameTo, Settled}
-use Rattle.least.proofs.Shifts.{lt-or, own-slot, held-without, slot_small, not_fixed, closed_bars, lowered_shifted, Near}
+use Rattle.least.specs.Least.{Fixed, Shifted, Lowerable, Lowered, Near, LaterWithin, Prefix, Minimizable, Settleable, SameTo, Settled}
+use Rattle.least.proofs.Shifts.{lt-or, own-slot, held-without, slot_small, not_fixed, closed_bars, lowered_shifted}
 
 -- ---- later: from the last item down to i
 
@@ -30,8 +30,8 @@ pub record Gathered (w : List ℕ) (table : List ℕ) (all i : ℕ) : Type 0 whe
   pub open_words : (y : ℕ) → i ≤ y → y < length w → Within (get_or w y 0) all
   pub words : (x : ℕ) → i ≤ x → x < length w → LaterWithin w x (get_or table x 0)
 
-pub gathered_start : (w table : List ℕ) → (length w ≤ 64) × (length table ≡ 64) → Gathered w table 0 (length w)
-gathered_start w table s = search arith
+pub gathered_start : (w table : List ℕ) → length w ≤ 64 → length table ≡ 64 → Gathered w table 0 (length w)
+gathered_start w table few size = search arith
 
 -- with i's word, all words from i on are within
 pub later-with : (w : List ℕ) (all i : ℕ) → ((y : ℕ) → i < y → y < length w → Within (get_or w y 0) all) → (y : ℕ) → i ≤ y → y < length w
@@ -232,15 +232,6 @@ module _ {w p₀ : List ℕ} {from : ℕ} {o p : List ℕ} {f fixed i : ℕ} (S 
   -- the items from i on are settled by themselves
   pub settling_settleable : Settleable w o p f i fixed
   settling_settleable = record { before = S.before; within = S.high }
-
-  pub settling_rest : {p' : List ℕ} → Settled w p i p' → Settled w p₀ from p'
-  settling_rest R = record {
-    plan = R.plan;
-    same = λ l h. R.same l (omega (arith, S.low)) ∙ S.same l h;
-    least = λ x h g q Q A. lt-or x i
-        (λ m. omega (arith, S.least x h m q Q (λ l n. A l n ∙ R.same l (omega arith)), R.same x m))
-        (λ m. R.least x m g q Q A);
-  }
 
   module _ (more : i < length w) where
     pub settling_minimizable : {after : ℕ} → LaterWithin w i after → Minimizable w o p f i after fixed

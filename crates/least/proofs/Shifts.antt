@@ -12,11 +12,11 @@ use Rattle.words.proofs.Bits.{bit-lt, bit_empty, bit-and, bit-minus, bit-low, bi
 use Rattle.words.proofs.SetLaws.{bit-with-le}
 use Rattle.model.specs.Plans.{IsPlan}
 use Rattle.augment.specs.Table.{own, at, Matched}
-use Rattle.augment.specs.Search.{Within, Takeable, Taken, Displaceable, Assigned, Barred, Same, Agrees}
+use Rattle.augment.specs.Search.{Within, Takeable, Taken, Displaceable, Assigned, Barred, Agrees}
 use Rattle.augment.proofs.Moves.{same_or}
 use Rattle.augment.proofs.Bars.{Shut, slot_lt, barred}
 use Rattle.augment.proofs.Completes.{leave_table, leave_exposed, take-complete}
-use Rattle.least.specs.Least.{Fixed, Shiftable, Shifted, Stuck, Lowerable, Lowered}
+use Rattle.least.specs.Least.{Fixed, Shiftable, Shifted, Stuck, Lowerable, Lowered, Near}
 
 -- one of two cases
 pub lt-or : {A : Type 0} (a b : ℕ) → (a < b → A) → (b ≤ a → A) → A
@@ -89,9 +89,6 @@ shifted_after H G b = record { complete = H.complete; slot = H.slot; from = b; k
 -- ---- shift
 
 module _ {w o p : List ℕ} {f x cand fixed s : ℕ} (S : Shiftable w o p f x cand fixed) (es : s ≡ at p x) where
-  pub shift_slot : s < 64
-  shift_slot = rw es (own-slot S.fixed_held).slot
-
   module _ {f₁ : ℕ} (ef : f₁ ≡ with f s) where
     f₁_is : f₁ ≡ with f (at p x)
     f₁_is = ef ∙ ap (with f) es
@@ -138,19 +135,14 @@ pub lowered_after : {w o o₁ p₁ o' p' : List ℕ} {f₁ f' x cand may fixed s
     → Lowered w o x may fixed o' p' f' k
 lowered_after H L = lowered_by (shifted_after (lowered_shifted L) H L.from) (λ q Q A b. L.least q Q (agrees_after H q A) b)
 
--- ---- a free slot: h is free and one of `may`, and no lower one of these is free; x goes there
+-- ---- lower_from: x leaves its slot s, and goes to the free slot h
 
-pub record Near (w o p : List ℕ) (f x fixed may h : ℕ) : Type 0 where
-  pub fixed_held : Fixed w o p f x fixed
-  pub cells : Within may (get_or w x 0)
-  pub below : h < 64
-  pub has : bit may h ≡ 1
-  pub free : bit f h ≡ 1
-  pub none : (j : ℕ) → j < h → bit may j ≡ 1 → (bit f j ≡ 0) × (j ≢ at p x)
+module _ {w o p : List ℕ} {f x fixed may h s f₁ : ℕ} (R : Near w o p f x fixed may h) (es : s ≡ at p x) (ef : f₁ ≡ with f s) where
+  left : f₁ ≡ with f (at p x)
+  left = ef ∙ ap (with f) es
 
-module _ {w o p : List ℕ} {f x fixed may h f₁ : ℕ} (R : Near w o p f x fixed may h) (ef : f₁ ≡ with f (at p x)) where
   pub near_takeable : Takeable w o p f₁ x h
-  near_takeable = let K = R.fixed_held in rw ef (record {
+  near_takeable = let K = R.fixed_held in rw left (record {
     table = leave_table w o p f K.complete x K.known;
     known = K.known;
     exposed = leave_exposed w o p f K.complete x K.known;
@@ -161,7 +153,7 @@ module _ {w o p : List ℕ} {f x fixed may h f₁ : ℕ} (R : Near w o p f x fix
 
   module _ {o' p' : List ℕ} {f' : ℕ} (T : Taken w o p f₁ x h o' p' f') where
     N : Taken w o p (with f (at p x)) x h o' p' f'
-    N = rw ef at T
+    N = rw left at T
 
     near_shifted : Shifted w o x may fixed o' p' f' h
     near_shifted = let K = R.fixed_held in record {
@@ -185,9 +177,6 @@ module _ {w : List ℕ} {x may fixed all : ℕ} {o₀ o p : List ℕ} {f s : ℕ
   pub lowering_slot : s < 64
   lowering_slot = omega (arith, G.shifted.slot, (own-slot G.fixed_held).slot)
 
-  pub lowering_zero : s ≡ 0 → Lowered w o₀ x may fixed o p f s
-  lowering_zero z = lowered_by G.shifted (λ q Q A b. omega arith)
-
   -- the slots of `all` below s
   module _ {below : ℕ} (eb : below ≡ low s) where
     abbrev cand : ℕ
@@ -207,18 +196,15 @@ module _ {w : List ℕ} {x may fixed all : ℕ} {o₀ o p : List ℕ} {f s : ℕ
     }
 
     -- none of these can be had
-    lowest_now : Stuck w o x cand fixed → Lowered w o₀ x may fixed o p f s
-    lowest_now stuck = lowered_by G.shifted (λ q Q A b. lt-or (at q x) s
+    pub lowering_stuck : Stuck w o x cand fixed → Lowered w o₀ x may fixed o p f s
+    lowering_stuck stuck = lowered_by G.shifted (λ q Q A b. lt-or (at q x) s
         (λ l.
         let A' = agrees_after G.shifted q A in
         absurd (omega (arith, stuck q Q A', in_cand (at q x) (slot_small G.fixed_held Q), not_fixed G.fixed_held Q A', bit-low s (at q x) l)))
         (λ m. m))
 
     pub lowering_none : cand ≡ 0 → Lowered w o₀ x may fixed o p f s
-    lowering_none z = lowest_now (λ q Q A. ap (λ v. bit v (at q x)) z ∙ bit_empty (at q x))
-
-    pub lowering_stuck : {o' p' : List ℕ} → Same o p o' p' × Stuck w o x cand fixed → Lowered w o₀ x may fixed o' p' f s
-    lowering_stuck r = rw (r.0.owner, r.0.slot) (lowest_now r.1)
+    lowering_none z = lowering_stuck (λ q Q A. ap (λ v. bit v (at q x)) z ∙ bit_empty (at q x))
 
     module _ {o' p' : List ℕ} {f' k : ℕ} (R : Shifted w o x cand fixed o' p' f' k × Within f' (with f (at p x))) where
       H : Shifted w o x cand fixed o' p' f' k

@@ -1,4 +1,4 @@
--- What the moves of an item on a complete table ask and promise. w, o, p, f as in augment's Table; o', p', f' afterwards; q any plan.
+-- What the moves of an item on a complete matching ask and promise. w, o, p, f as in augment's Table; o', p', f' afterwards; q any plan.
 -- Assumes nothing.
 use Rattle.std.specs.Prelude.{◌≡◌, ◌≢◌, List, ℕ, ◌+◌, ◌≤◌, ◌<◌, length, get_or}
 use Rattle.words.specs.Word.{bit}
@@ -50,6 +50,17 @@ pub record Lowered (w o : List ℕ) (x may fixed : ℕ) (o' p' : List ℕ) (f' k
   pub from : bit may k ≡ 1
   pub keeps : (l : ℕ) → l < 64 → bit fixed l ≡ 1 → (bit f' l ≡ 0) × (own o' l ≡ own o l)
   pub least : (q : List ℕ) → IsPlan w q → Agrees o fixed q → bit may (at q x) ≡ 1 → k ≤ at q x
+
+-- ---- lower_from
+
+-- slot h of `may` is free; x holds no lower slot of these, and none of them is free
+pub record Near (w o p : List ℕ) (f x fixed may h : ℕ) : Type 0 where
+  pub fixed_held : Fixed w o p f x fixed
+  pub cells : Within may (get_or w x 0)
+  pub below : h < 64
+  pub has : bit may h ≡ 1
+  pub free : bit f h ≡ 1
+  pub none : (j : ℕ) → j < h → bit may j ≡ 1 → (bit f j ≡ 0) × (j ≢ at p x)
 
 -- ---- minimize
 

@@ -1,131 +1,99 @@
--- A text that is written part by part over the front of what was lent. Assumes nothing.
+-- A text that is written part by part. Assumes nothing.
 use mathlib.Core.Path.{◌≡◌, refl, sym, ap, ap₂, ◌∙◌, subst}
-use mathlib.Core.List.{List, [], ◌∷◌, ◌++◌, append_assoc, append-nil}
-use Prim.Native.Nat.{ℕ, ◌+◌, ◌-◌, ◌<◌, ◌≤◌}
+use mathlib.Core.List.{List, [], ◌++◌, append_assoc, append-nil}
+use Prim.Native.Nat.{ℕ, ◌+◌}
+use native.Mathlib.Nat.{add-zero}
 use native.Mathlib.Omega.{arith}
-use native.Mathlib.Numerals.{add-one}
-use lib.ListN.{length, take, drop, set, take-append-drop, length-append, length-drop, length-set, drop_of_length-le}
-use lib.Seq.{take_at, drop_at, drop-drop, length-take-le, take_all, take-suc-set, drop-set-lt}
-use Rattle.listing_text.specs.Writing.{Wrote}
+use lib.ListN.{length, take, drop, take-append-drop, length-append, length-drop}
+use lib.Seq.{take_at, drop_at, drop-drop, length-take-le}
+use Rattle.listing_text.specs.declared.Page.{Page}
+use Rattle.listing_text.specs.Writing.{Room, Put}
 
--- the text is written but for `rest`: before place `at` stands its front, from there on what was lent
-pub record Begun (text rest old page : List ℕ) (at : ℕ) : Type 0 where
-  pub front : text ≡ take at page ++ rest
-  pub kept : drop at page ≡ drop at old
-  pub within : at ≤ length page
-  pub sized : length page ≡ length old
-  pub room : length text ≤ length old
+put_none : (p : Page) → Put [] p p
+put_none p = record {
+  bytes = sym (ap (λ k. take p.at p.out.now ++ drop k p.out.now) (add-zero p.at) ∙ take-append-drop p.at p.out.now);
+  at = sym (add-zero p.at);
+  same = refl;
+}
 
--- the part of a slice from a place on, and the slice with another part there, as a loan of that part has them
-abbrev pub tail : ℕ → List ℕ → List ℕ
-tail at page = take (length page - at) (drop at page)
+module _ {x : List ℕ} {p q : Page} (w : Put x p q) (room : Room x p) where
+  front-length : length (take p.at p.out.now) ≡ p.at
+  front-length = length-take-le p.at p.out.now (omega arith)
 
-abbrev pub put : ℕ → List ℕ → List ℕ → List ℕ
-put at page part = take at page ++ (part ++ drop (length page - at) (drop at page))
+  put_length : length q.out.now ≡ length p.out.now
+  put_length =
+      let past = drop (p.at + length x) p.out.now in
+      omega (
+        arith,
+        ap length w.bytes,
+        length-append (take p.at p.out.now) (x ++ past),
+        length-append x past,
+        front-length,
+        length-drop (p.at + length x) p.out.now,
+      )
+
+  -- one text behind the other
+  put_both : {y : List ℕ} {r : Page} → Put y q r → Put (x ++ y) p r
+  put_both {y} {r} v =
+      let a = take p.at p.out.now in
+      let past = drop (p.at + length x) p.out.now in
+      let whole : q.out.now ≡ (a ++ x) ++ past = w.bytes ∙ sym (append_assoc a x past) in
+      let size : length (a ++ x) ≡ q.at = omega (arith, length-append a x, front-length, w.at) in
+      let before : take q.at q.out.now ≡ a ++ x = ap (take q.at) whole ∙ take_at (a ++ x) past q.at size in
+      let all : p.at + length (x ++ y) ≡ (p.at + length x) + length y = omega (arith, length-append x y) in
+      let behind : drop (q.at + length y) q.out.now ≡ drop (p.at + length (x ++ y)) p.out.now =
+      sym (drop-drop (length y) q.at q.out.now) ∙ ap (drop (length y)) (ap (drop q.at) whole ∙ drop_at (a ++ x) past q.at size)
+      ∙ drop-drop (length y) (p.at + length x) p.out.now ∙ ap (λ k. drop k p.out.now) (sym all) in
+      record {
+        bytes = v.bytes ∙ ap₂ (λ f b. f ++ (y ++ b)) before behind ∙ append_assoc a x (y ++ drop (p.at + length (x ++ y)) p.out.now)
+            ∙ ap (a ++◌) (sym (append_assoc x y (drop (p.at + length (x ++ y)) p.out.now)));
+        at = v.at ∙ ap (◌+ length y) w.at ∙ sym all;
+        same = v.same ∙ w.same;
+      }
+
+-- the text is written but for `rest`
+pub record Begun (text rest : List ℕ) (p q : Page) : Type 0 where
+  pub written : List ℕ
+  pub front : text ≡ written ++ rest
+  pub put : Put written p q
+  pub room : Room text p
 
 -- nothing yet
-pub begin : {text old : List ℕ} → length text ≤ length old → Begun text text old old 0
-begin h = record { front = refl; kept = refl; within = omega arith; sized = refl; room = h }
+pub begin : {text : List ℕ} {p : Page} → Room text p → Begun text text p p
+begin {p = p} h = record { written = []; front = refl; put = put_none p; room = h }
 
-module _ {text old page : List ℕ} {at : ℕ} where
-  -- all of it
-  pub done : Begun text [] old page at → Wrote text old page at
-  done w =
-      let front : text ≡ take at page = w.front ∙ append-nil (take at page) in
-      record {
-        bytes = sym (take-append-drop at page) ∙ ap₂ ◌++◌ (sym front) w.kept;
-        size = sym (length-take-le at page w.within) ∙ ap length (sym front);
-      }
+module _ {text : List ℕ} {p q : Page} where
+  module _ (x rest : List ℕ) (w : Begun text (x ++ rest) p q) where
+    parts : length text ≡ length w.written + (length x + length rest)
+    parts = omega (arith, ap length w.front, length-append w.written (x ++ rest), length-append x rest)
 
-  module _ (x rest : List ℕ) (w : Begun text (x ++ rest) old page at) where
-    left : at + (length x + length rest) ≤ length page
-    left =
-        omega (
-          arith,
-          w.room,
-          w.sized,
-          ap length w.front,
-          length-append (take at page) (x ++ rest),
-          length-take-le at page w.within,
-          length-append x rest,
-        )
-
-    tail_is : tail at page ≡ drop at page
-    tail_is = take_all (length page - at) (drop at page) (omega (arith, length-drop at page))
+    front-room : Room w.written p
+    front-room = omega (arith, w.room, parts)
 
     -- there is room for the next part
-    pub fits : length x ≤ length (tail at page)
-    fits = omega (arith, left, length-drop at page, ap length tail_is)
+    pub fits : Room x q
+    fits = omega (arith, w.room, parts, w.put.at, put_length w.put front-room)
 
     -- and it is written
-    pub more : {part : List ℕ} {k : ℕ} → Wrote x (tail at page) part k → Begun text rest old (put at page part) (at + k)
-    more {part} {k} p =
-        let back = drop k (drop at page) in
-        let part-is : part ≡ x ++ back = p.bytes ∙ ap (λ l. x ++ drop k l) tail_is in
-        let nothing : drop (length page - at) (drop at page) ≡ [] =
-        drop_of_length-le (drop at page) {i = length page - at} (omega (arith, length-drop at page)) in
-        let new : put at page part ≡ (take at page ++ x) ++ back =
-        ap (λ l. take at page ++ (part ++ l)) nothing ∙ ap (take at page ++◌) (append-nil part ∙ part-is) ∙ sym (append_assoc (take at page) x back) in
-        let size : length (take at page ++ x) ≡ at + k =
-        length-append (take at page) x ∙ ap₂ ◌+◌ (length-take-le at page w.within) (sym p.size) in
-        let all : length (put at page part) ≡ length page =
-        ap length new ∙ length-append (take at page ++ x) back ∙ omega (arith, left, size, p.size, length-drop k (drop at page), length-drop at page) in
-        let front : take (at + k) (put at page part) ≡ take at page ++ x = ap (take (at + k)) new ∙ take_at (take at page ++ x) back (at + k) size in
-        record {
-          front = w.front ∙ sym (append_assoc (take at page) x rest) ∙ ap (◌++ rest) (sym front);
-          kept = ap (drop (at + k)) new ∙ drop_at (take at page ++ x) back (at + k) size ∙ ap (drop k) w.kept ∙ drop-drop k at old;
-          within = omega (arith, left, p.size, all);
-          sized = all ∙ w.sized;
-          room = w.room;
-        }
+    pub more : {r : Page} → Put x q r → Begun text rest p r
+    more v = record {
+      written = w.written ++ x;
+      front = w.front ∙ sym (append_assoc w.written x rest);
+      put = put_both w.put front-room v;
+      room = w.room;
+    }
 
-  -- the last part
-  module _ (x : List ℕ) (w : Begun text x old page at) where
-    ends : Begun text (x ++ []) old page at
-    ends = subst (λ l. Begun text l old page at) (sym (append-nil x)) w
+  -- all of it
+  pub done : Begun text [] p q → Put text p q
+  done w = subst (λ l. Put l p q) (sym (w.front ∙ append-nil w.written)) w.put
 
-    pub fits_last : length x ≤ length (tail at page)
-    fits_last = fits x [] ends
+-- the last part
+module _ {text : List ℕ} {p q : Page} (x : List ℕ) (w : Begun text x p q) where
+  ends : Begun text (x ++ []) p q
+  ends = subst (λ l. Begun text l p q) (sym (append-nil x)) w
 
-    pub last : {part : List ℕ} {k : ℕ} → Wrote x (tail at page) part k → Begun text [] old (put at page part) (at + k)
-    last = more x [] ends
+  pub fits_last : Room x q
+  fits_last = fits x [] ends
 
-  -- one byte
-  module _ {b : ℕ} {rest : List ℕ} (w : Begun text (b ∷ rest) old page at) where
-    pub inside : at < length page
-    inside = omega (arith, left (b ∷ []) rest w)
-
-    pub byte : Begun text rest old (set page at b) (at + 1)
-    byte =
-        let one_more : take (at + 1) (set page at b) ≡ take at page ++ (b ∷ []) = rw add-one (take-suc-set page at b inside) in
-        record {
-          front = w.front ∙ sym (append_assoc (take at page) (b ∷ []) rest) ∙ ap (◌++ rest) (sym one_more);
-          kept = drop-set-lt (at + 1) page at b (omega arith) ∙ sym (drop-drop 1 at page) ∙ ap (drop 1) w.kept ∙ drop-drop 1 at old;
-          within = omega (arith, inside, length-set page at b);
-          sized = length-set page at b ∙ w.sized;
-          room = w.room;
-        }
-
--- the first part, written over the whole front
-module _ (x rest old : List ℕ) (room : length (x ++ rest) ≤ length old) where
-  pub first_fits : length x ≤ length old
-  first_fits = omega (arith, room, length-append x rest)
-
-  pub after : {page : List ℕ} {k : ℕ} → Wrote x old page k → Begun (x ++ rest) rest old page k
-  after {page} {k} p =
-      let all : length page ≡ length old = ap length p.bytes ∙ length-append x (drop k old) ∙ omega (arith, first_fits, p.size, length-drop k old) in
-      record {
-        front = ap (◌++ rest) (sym (ap (take k) p.bytes ∙ take_at x (drop k old) k (sym p.size)));
-        kept = ap (drop k) p.bytes ∙ drop_at x (drop k old) k (sym p.size);
-        within = omega (arith, first_fits, p.size, all);
-        sized = all;
-        room = room;
-      }
-
--- what is written lies within what was lent
-pub wrote_within : {text old new : List ℕ} {r : ℕ} → Wrote text old new r → r ≤ length new
-wrote_within {text} {old} {new} {r} w = omega (arith, w.size, ap length w.bytes, length-append text (drop r old))
-
--- a copy of bytes over the front is such a part
-pub copy_wrote : (word : List ℕ) {old part : List ℕ} → part ≡ word → Wrote word old (part ++ drop (length word) old) (length word)
-copy_wrote word {old} e = record { bytes = ap (◌++ drop (length word) old) e; size = refl }
+  pub last : {r : Page} → Put x q r → Put text p r
+  last v = done (more x [] ends v)

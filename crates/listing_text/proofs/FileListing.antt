@@ -1,11 +1,11 @@
 -- The listing of a file's bytes, by what reading them into tables of 64 words answered. Assumes nothing.
 use mathlib.Core.Path.{◌≡◌, refl, sym, ap, ap₂, ◌∙◌}
 use mathlib.Core.Logic.{◌≢◌}
-use mathlib.Core.List.{List}
+use mathlib.Core.List.{List, ◌++◌}
 use Prim.Native.Nat.{ℕ, ◌+◌, ◌*◌, ◌≤◌}
 use native.Mathlib.Omega.{arith}
 use native.Mathlib.Decide.{ℕ_discrete}
-use lib.ListN.{length, take, replicate}
+use lib.ListN.{length, take, drop, replicate}
 use Rattle.model.specs.declared.Edition.{Edition}
 use Rattle.model.specs.declared.ReadAnswer.{ReadAnswer}
 use Rattle.model.specs.Rota.{table_code}
@@ -21,7 +21,8 @@ use Rattle.model.proofs.Editions.{one_slots}
 use Rattle.model.proofs.Files.{accepted-file}
 use Rattle.model.proofs.RoundTrips.{opens_read, callouts_read, opens-room, callouts-room}
 use Rattle.model.proofs.ListingLength.{listing-length}
-use Rattle.listing_text.specs.Writing.{Wrote}
+use Rattle.listing_text.specs.declared.Page.{Page}
+use Rattle.listing_text.specs.Writing.{Room, Put, Wrote}
 use Rattle.listing_text.proofs.FirstSteps.{refused_is}
 
 -- 64 words are enough for any file
@@ -41,21 +42,32 @@ text_is : (file : List ℕ) → listing_text Edition.One file
 unfolding listing_text
 text_is file = refl
 
-module _ (file : List ℕ) (r : ReadAnswer) (read : r ≡ read_answer Edition.One file 64 64) (page : List ℕ) (room : 8 + 1000 * 203 + 10 ≤ length page) where
+-- a page of room for every listing
+pub listing_room : (file : List ℕ) (page : List ℕ) → 8 + 1000 * 203 + 10 ≤ length page → 0 + length (listing_text Edition.One file) ≤ length page
+listing_room file page h = omega (arith, listing-length Edition.One file)
+
+-- a page of which nothing was written
+pub put_wrote : (text : List ℕ) (p q : Page) → p.at ≡ 0 → Put text p q → Wrote text p.out.now q.out.now q.at
+put_wrote text p q z w =
+    let size : p.at + length text ≡ q.at = sym w.at in
+    record {
+      bytes = w.bytes ∙ ap₂ (λ a b. take a p.out.now ++ (text ++ drop b p.out.now)) z size;
+      size = omega (arith, w.at);
+    }
+
+module _ (file : List ℕ) (r : ReadAnswer) (read : r ≡ read_answer Edition.One file 64 64) (p : Page)
+    (room : Room (listing_text Edition.One file) p) where
   code_is : r.code ≡ file_code Edition.One file
   code_is = ap (λ (x : ReadAnswer). x.code) read ∙ read-code Edition.One file 64 64 ∙ all_read file
-
-  text_room : length (listing_text Edition.One file) ≤ length page
-  text_room = omega (arith, listing-length Edition.One file)
 
   module _ (d : r.code ≢ 0) where
     refused_text : listing_text Edition.One file ≡ number_line refused_word r.code
     refused_text = text_is file ∙ sym (refused-answer r.code (file_code Edition.One file) d (sym code_is) refused_line _) ∙ refused_is r.code
 
-    pub refusal_fits : length (number_line refused_word r.code) ≤ length page
-    refusal_fits = rw refused_text at text_room
+    pub refusal_fits : Room (number_line refused_word r.code) p
+    refusal_fits = rw refused_text at room
 
-    pub refusal_written : {new : List ℕ} {n : ℕ} → Wrote (number_line refused_word r.code) page new n → Wrote (listing_text Edition.One file) page new n
+    pub refusal_written : {q : Page} → Put (number_line refused_word r.code) p q → Put (listing_text Edition.One file) p q
     refusal_written w = rw refused_text w
 
   module _ (z : r.code ≡ 0) (o k : List ℕ) (to : o ≡ read_opens Edition.One file (replicate 64 0) (replicate 64 0))
@@ -97,9 +109,9 @@ module _ (file : List ℕ) (r : ReadAnswer) (read : r ≡ read_answer Edition.On
         ∙ sym (ap₂ (λ n m. listing_of n callouts (plans m opens)) items_are slots_are
         ∙ ap₂ (λ x y. listing_of (items_in file) y (plans (slots_in Edition.One file) x)) opens_are callouts_are)
 
-    pub rota_fits : length (listing_of (length opens) callouts (plans (length opens) opens)) ≤ length page
-    rota_fits = rw rota_text at text_room
+    pub rota_fits : Room (listing_of (length opens) callouts (plans (length opens) opens)) p
+    rota_fits = rw rota_text at room
 
-    pub rota_written : {new : List ℕ} {n : ℕ} → Wrote (listing_of (length opens) callouts (plans (length opens) opens)) page new n
-        → Wrote (listing_text Edition.One file) page new n
+    pub rota_written : {q : Page} → Put (listing_of (length opens) callouts (plans (length opens) opens)) p q
+        → Put (listing_text Edition.One file) p q
     rota_written w = rw rota_text w

@@ -2,7 +2,7 @@
 use mathlib.Core.Path.{◌≡◌, refl, sym, ap, ◌∙◌}
 use mathlib.Core.Logic.{◌≢◌}
 use mathlib.Core.List.{List, [], ◌∷◌, ◌++◌}
-use Prim.Native.Nat.{ℕ, ◌≤◌}
+use Prim.Native.Nat.{ℕ}
 use lib.ListN.{length, take}
 use Rattle.model.specs.Rota.{table_code}
 use Rattle.model.specs.Plans.{plans}
@@ -12,8 +12,9 @@ use Rattle.model.specs.Lister.{lister_answer}
 use Rattle.model.specs.ListingText.{refused_word, rota_word, number_line, refused_line, last_line, plan_lines, listing_of}
 use Rattle.rota.specs.declared.lister.Stepped.{Stepped}
 use Rattle.rota.specs.Step.{step_of}
-use Rattle.listing_text.specs.Writing.{Wrote, fresh, first_step, after_first}
-use Rattle.listing_text.proofs.Begun.{Begun, first_fits, after}
+use Rattle.listing_text.specs.declared.Page.{Page}
+use Rattle.listing_text.specs.Writing.{Room, Put, fresh, first_step, after_first}
+use Rattle.listing_text.proofs.Begun.{Begun, begin}
 use Rattle.listing_text.proofs.PlansGiven.{answer_of, next-plan, no-plan, all_listed}
 
 pub refused_is : (c : ℕ) → refused_line c ≡ number_line refused_word c
@@ -38,35 +39,31 @@ module _ (opens callouts : List ℕ) (ok : table_code (length opens) (length ope
   none_code e =
       ap (λ c. (unless refused c (first_from (length opens) opens)).code) ok ∙ ap (λ l. (first_of opens l).code) e
 
-  module _ {s : Stepped} (q : s ≡ first_step opens callouts) {code : ℕ} (is : code ≡ s.answer.code) where
-    code_is : code ≡ (answer_of opens callouts fresh).code
+  module _ {s : Stepped} (q : s ≡ first_step opens callouts) where
+    code_is : s.answer.code ≡ (answer_of opens callouts fresh).code
     unfolding step_of
-    code_is = is ∙ ap (λ (x : Stepped). x.answer.code) q
+    code_is = ap (λ (x : Stepped). x.answer.code) q
 
-    module _ (d : code ≢ 0) where
-      refused_text : listing_of (length opens) callouts all ≡ number_line refused_word code
+    module _ (d : s.answer.code ≢ 0) where
+      refused_text : listing_of (length opens) callouts all ≡ number_line refused_word s.answer.code
       refused_text =
           let none = no-plan (answer_of opens callouts) fresh all (all_listed opens callouts ok) (λ z. d (code_is ∙ z)) in
           ap (listing_of (length opens) callouts) none ∙ listing_none (length opens) callouts ∙ refused_is 9
           ∙ ap (number_line refused_word) (sym (code_is ∙ none_code none))
 
-      pub refused-fits : (out : List ℕ) → length (listing_of (length opens) callouts all) ≤ length out → length (number_line refused_word code) ≤ length out
-      refused-fits out room = rw refused_text at room
+      pub refused-fits : (p : Page) → Room (listing_of (length opens) callouts all) p → Room (number_line refused_word s.answer.code) p
+      refused-fits p room = rw refused_text at room
 
-      pub refused-written : {out page : List ℕ} {r : ℕ} → Wrote (number_line refused_word code) out page r
-          → Wrote (listing_of (length opens) callouts all) out page r
+      pub refused-written : {p q : Page} → Put (number_line refused_word s.answer.code) p q → Put (listing_of (length opens) callouts all) p q
       refused-written w = rw refused_text w
 
-    module _ (z : code ≡ 0) (out : List ℕ) (room : length (listing_of (length opens) callouts all) ≤ length out) where
+    module _ (z : s.answer.code ≡ 0) where
       rota_text : listing_of (length opens) callouts all ≡ number_line rota_word (length opens) ++ after_first opens callouts
       rota_text =
           let next = next-plan (answer_of opens callouts) fresh all (all_listed opens callouts ok) (sym code_is ∙ z) in
           ap (listing_of (length opens) callouts) next.first ∙ listing-some (length opens) callouts next.plan next.others
           ∙ ap (λ l. number_line rota_word (length opens) ++ (plan_lines callouts 1 (take 1000 l) ++ last_line (length l))) (sym next.first)
 
-      pub first-line-fits : length (number_line rota_word (length opens)) ≤ length out
-      first-line-fits = first_fits (number_line rota_word (length opens)) (after_first opens callouts) out (rw rota_text at room)
-
-      pub first-line-written : {page : List ℕ} {r : ℕ} → Wrote (number_line rota_word (length opens)) out page r
-          → Begun (listing_of (length opens) callouts all) (after_first opens callouts) out page r
-      first-line-written w = rw rota_text (after (number_line rota_word (length opens)) (after_first opens callouts) out (rw rota_text at room) w)
+      pub rota_begun : (p : Page) → Room (listing_of (length opens) callouts all) p
+          → Begun (listing_of (length opens) callouts all) (number_line rota_word (length opens) ++ after_first opens callouts) p p
+      rota_begun p room = rw rota_text (begin (rw rota_text at room))

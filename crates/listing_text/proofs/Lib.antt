@@ -3,4 +3,4 @@ mod Digits
 mod LineParts
 mod PlansGiven
 mod FirstSteps
-mod FileListing
+pub mod FileListing

@@ -8,64 +8,73 @@ use lib.Seq.{drop-cons}
 use Rattle.model.specs.Fewest.{callouts_of}
 use Rattle.model.specs.Decimal.{decimal}
 use Rattle.model.specs.ListingText.{stroke_word, number_line, slot_text, plan_line}
-use Rattle.listing_text.specs.Writing.{Wrote}
-use Rattle.listing_text.proofs.Begun.{Begun, tail, put, begin, fits, more, first_fits, after}
+use Rattle.listing_text.specs.declared.Page.{Page}
+use Rattle.listing_text.specs.Writing.{Room, Put}
+use Rattle.listing_text.proofs.Begun.{Begun, begin, fits, more, done}
 
--- ---- a word and a number
+-- a word and a number
+pub line_begun : (word : List ℕ) (x : ℕ) (p : Page) → Room (number_line word x) p → Begun (number_line word x) (word ++ (decimal x ++ (10 ∷ []))) p p
+unfolding number_line
+line_begun word x p room = begin room
 
-module _ (word : List ℕ) (x : ℕ) (out : List ℕ) (room : length (number_line word x) ≤ length out) where
-  pub word_fits : length word ≤ length out
-  unfolding number_line
-  word_fits = first_fits word (decimal x ++ (10 ∷ [])) out room
-
-  module _ {page : List ℕ} {a : ℕ} (w : Wrote word out page a) where
-    pub word-written : Begun (number_line word x) (decimal x ++ (10 ∷ [])) out page a
-    unfolding number_line
-    word-written = after word (decimal x ++ (10 ∷ [])) out room w
-
--- ---- a slot
-
-module _ (j : ℕ) (out : List ℕ) (room : length (slot_text j) ≤ length out) where
-  pub slot_begun : Begun (slot_text j) (32 ∷ decimal j) out out 0
-  unfolding slot_text
-  slot_begun = begin room
+-- a slot
+pub slot_begun : (j : ℕ) (p : Page) → Room (slot_text j) p → Begun (slot_text j) ((32 ∷ []) ++ decimal j) p p
+unfolding slot_text
+slot_begun j p room = begin room
 
 -- the slots of the items before i are written
-pub record SlotsBegun (plan old page : List ℕ) (at i : ℕ) : Type 0 where
+pub record SlotsBegun (plan : List ℕ) (p q : Page) (i : ℕ) : Type 0 where
   pub items : i ≤ length plan
-  pub begun : Begun (flat_map slot_text plan) (flat_map slot_text (drop i plan)) old page at
+  pub begun : Begun (flat_map slot_text plan) (flat_map slot_text (drop i plan)) p q
 
-pub slots-none : (plan : List ℕ) {old : List ℕ} → length (flat_map slot_text plan) ≤ length old → SlotsBegun plan old old 0 0
+pub slots-none : (plan : List ℕ) {p : Page} → Room (flat_map slot_text plan) p → SlotsBegun plan p p 0
 slots-none plan room = record { items = omega arith; begun = begin room }
 
-module _ {plan old page : List ℕ} {at i : ℕ} (s : SlotsBegun plan old page at i) where
-  pub slots_done : length plan ≤ i → Begun (flat_map slot_text plan) [] old page at
+module _ {plan : List ℕ} {p q : Page} {i : ℕ} (s : SlotsBegun plan p q i) where
+  pub slots_done : length plan ≤ i → Put (flat_map slot_text plan) p q
   unfolding flat_map
-  slots_done h = rw (drop_of_length-le plan {i = i} h) at s.begun
+  slots_done h = done (rw (drop_of_length-le plan {i = i} h) at s.begun)
 
   module _ (h : i < length plan) where
-    slot_next : Begun (flat_map slot_text plan) (slot_text (get_or plan i 0) ++ flat_map slot_text (drop (suc i) plan)) old page at
+    slot_next : Begun (flat_map slot_text plan) (slot_text (get_or plan i 0) ++ flat_map slot_text (drop (suc i) plan)) p q
     unfolding flat_map
     slot_next = rw (drop-cons plan i 0 h) at s.begun
 
-    pub slot-fits : length (slot_text (get_or plan i 0)) ≤ length (tail at page)
+    pub slot-fits : Room (slot_text (get_or plan i 0)) q
     slot-fits = fits (slot_text (get_or plan i 0)) (flat_map slot_text (drop (suc i) plan)) slot_next
 
-    pub slots-more : {part : List ℕ} {k : ℕ} → Wrote (slot_text (get_or plan i 0)) (tail at page) part k → SlotsBegun plan old (put at page part) (at + k) (i + 1)
+    pub slots-more : {r : Page} → Put (slot_text (get_or plan i 0)) q r → SlotsBegun plan p r (i + 1)
     slots-more w =
         record { items = omega arith; begun = rw add-one (more (slot_text (get_or plan i 0)) (flat_map slot_text (drop (suc i) plan)) slot_next w) }
 
--- ---- a plan
+-- a plan: its position, ":", its slots, its callouts
+abbrev pub slots : List ℕ → List ℕ → List ℕ
+slots callouts plan = flat_map slot_text (take (length callouts) plan)
 
--- what stands after the position and ":"
-abbrev pub slots_and_callouts : List ℕ → List ℕ → List ℕ
-slots_and_callouts callouts p = flat_map slot_text (take (length callouts) p) ++ number_line stroke_word (callouts_of callouts p)
+abbrev pub last_part : List ℕ → List ℕ → List ℕ
+last_part callouts plan = number_line stroke_word (callouts_of callouts plan)
 
-module _ (callouts : List ℕ) (k : ℕ) (p out : List ℕ) (room : length (plan_line callouts k p) ≤ length out) where
-  pub position_fits : length (decimal k) ≤ length out
+module _ (callouts : List ℕ) (k : ℕ) (plan : List ℕ) (p : Page) (room : Room (plan_line callouts k plan) p) where
+  position : Begun (plan_line callouts k plan) (decimal k ++ ((58 ∷ []) ++ (slots callouts plan ++ last_part callouts plan))) p p
   unfolding plan_line
-  position_fits = first_fits (decimal k) (58 ∷ slots_and_callouts callouts p) out room
+  position = begin room
 
-  pub position_written : {page : List ℕ} {a : ℕ} → Wrote (decimal k) out page a → Begun (plan_line callouts k p) (58 ∷ slots_and_callouts callouts p) out page a
-  unfolding plan_line
-  position_written = after (decimal k) (58 ∷ slots_and_callouts callouts p) out room
+  pub position_fits : Room (decimal k) p
+  position_fits = fits (decimal k) ((58 ∷ []) ++ (slots callouts plan ++ last_part callouts plan)) position
+
+  module _ {q : Page} (w : Put (decimal k) p q) where
+    colon : Begun (plan_line callouts k plan) ((58 ∷ []) ++ (slots callouts plan ++ last_part callouts plan)) p q
+    colon = more (decimal k) ((58 ∷ []) ++ (slots callouts plan ++ last_part callouts plan)) position w
+
+    pub colon_fits : Room (58 ∷ []) q
+    colon_fits = fits (58 ∷ []) (slots callouts plan ++ last_part callouts plan) colon
+
+    module _ {r : Page} (v : Put (58 ∷ []) q r) where
+      all_slots : Begun (plan_line callouts k plan) (slots callouts plan ++ last_part callouts plan) p r
+      all_slots = more (58 ∷ []) (slots callouts plan ++ last_part callouts plan) colon v
+
+      pub all_slots_fit : Room (slots callouts plan) r
+      all_slots_fit = fits (slots callouts plan) (last_part callouts plan) all_slots
+
+      pub callouts_left : {t : Page} → Put (slots callouts plan) r t → Begun (plan_line callouts k plan) (last_part callouts plan) p t
+      callouts_left u = more (slots callouts plan) (last_part callouts plan) all_slots u

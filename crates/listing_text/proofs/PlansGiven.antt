@@ -23,8 +23,9 @@ use Rattle.model.specs.ListingText.{last_line, plan_line, plan_lines}
 use Rattle.model.proofs.Listing.{plans_listed}
 use Rattle.rota.specs.declared.lister.Stepped.{Stepped}
 use Rattle.rota.specs.Step.{step_of}
-use Rattle.listing_text.specs.Writing.{Wrote, end_or_more, fresh, first_step, after_first}
-use Rattle.listing_text.proofs.Begun.{Begun, tail, put, begin, fits, more}
+use Rattle.listing_text.specs.declared.Page.{Page}
+use Rattle.listing_text.specs.Writing.{Room, Put, end_or_more, fresh, first_step, after_first}
+use Rattle.listing_text.proofs.Begun.{Begun, begin, fits, more}
 
 -- ---- what is left to write after k plans
 
@@ -76,21 +77,20 @@ abbrev pub answer_of : List ℕ → List ℕ → Lister → PlanAnswer
 answer_of opens callouts e = lister_answer e (length opens) (length opens) opens callouts
 
 -- s is the step after k plans, and what they write is written
-pub record Given (opens callouts old page : List ℕ) (s : Stepped) (k at : ℕ) : Type 0 where
+pub record Given (opens callouts : List ℕ) (p q : Page) (s : Stepped) (k : ℕ) : Type 0 where
   pub listed : k ≤ 1000
   pub lister : Lister
   pub rest : List (List ℕ)
   pub step : s ≡ step_of lister (length opens) (length opens) opens callouts
   pub listing : IsListing (answer_of opens callouts) lister rest
-  pub begun : Begun (after_first opens callouts) (left_after callouts k rest) old page at
+  pub begun : Begun (after_first opens callouts) (left_after callouts k rest) p q
 
 module _ (opens callouts : List ℕ) (ok : table_code (length opens) (length opens) opens callouts ≡ 0) where
   -- a fresh lister lists all plans
   pub all_listed : IsListing (answer_of opens callouts) fresh (plans (length opens) opens)
   all_listed = ((plans_listed (length opens) (length opens) opens callouts ok).listing fresh refl (plans (length opens) opens)).1 refl
 
-  pub given-none : {old : List ℕ} → length (after_first opens callouts) ≤ length old → {s : Stepped} → s ≡ first_step opens callouts
-      → Given opens callouts old old s 0 0
+  pub given-none : {p : Page} → Room (after_first opens callouts) p → {s : Stepped} → s ≡ first_step opens callouts → Given opens callouts p p s 0
   given-none room q =
       let all = plans (length opens) opens in
       record {
@@ -118,7 +118,7 @@ pub no-plan : (answer : Lister → PlanAnswer) (e : Lister) (rest : List (List �
 no-plan answer e [] l d = refl
 no-plan answer e (p ∷ rest) l d = absurd (d (ap (λ a. a.code) l.0))
 
-module _ {opens callouts old page : List ℕ} {s : Stepped} {k at : ℕ} (g : Given opens callouts old page s k at) where
+module _ {opens callouts : List ℕ} {p q : Page} {s : Stepped} {k : ℕ} (g : Given opens callouts p q s k) where
   abbrev text : List ℕ
   text = after_first opens callouts
 
@@ -134,58 +134,52 @@ module _ {opens callouts old page : List ℕ} {s : Stepped} {k at : ℕ} (g : Gi
   code_is = ap (λ a. a.code) answer_is
 
   -- the step was refused: no plan is left
-  pub given_end : s.answer.code ≢ 0 → Begun text (end_or_more k s.answer.code) old page at
+  pub given_end : s.answer.code ≢ 0 → Begun text (end_or_more k s.answer.code) p q
   given_end d =
       let none = no-plan (answer_of opens callouts) g.lister g.rest g.listing (λ z. d (code_is ∙ z)) in
-      subst (λ l. Begun text l old page at) (ap (left_after callouts k) none ∙ left_end callouts k s.answer.code d g.listed) g.begun
+      subst (λ l. Begun text l p q) (ap (left_after callouts k) none ∙ left_end callouts k s.answer.code d g.listed) g.begun
 
   module _ (z : s.answer.code ≡ 0) where
     next : NextPlan (answer_of opens callouts) g.lister g.rest
     next = next-plan (answer_of opens callouts) g.lister g.rest g.listing (sym code_is ∙ z)
 
     -- after 1,000 plans, and one more
-    pub given-over : k ≡ 1000 → Begun text (end_or_more k s.answer.code) old page at
+    pub given-over : k ≡ 1000 → Begun text (end_or_more k s.answer.code) p q
     given-over e =
-        subst (λ l. Begun text l old page at)
+        subst (λ l. Begun text l p q)
         (ap (left_after callouts k) next.first ∙ left_over callouts k next.plan next.others e ∙ ap (end_or_more k) (sym z)) g.begun
 
-    module _ (h : k < 1000) {p : List ℕ} (q : p ≡ s.answer.plan.slots) where
-      line-next : Begun text (plan_line callouts (k + 1) p ++ left_after callouts (suc k) next.others) old page at
+    module _ (h : k < 1000) where
+      abbrev slots : List ℕ
+      slots = s.answer.plan.slots
+
+      line-next : Begun text (plan_line callouts (k + 1) slots ++ left_after callouts (suc k) next.others) p q
       line-next =
-          let same : next.plan ≡ p = sym (ap (λ a. a.plan.slots) (answer_is ∙ next.gives)) ∙ sym q in
-          subst (λ l. Begun text l old page at)
+          let same : next.plan ≡ slots = sym (ap (λ a. a.plan.slots) (answer_is ∙ next.gives)) in
+          subst (λ l. Begun text l p q)
           (ap (left_after callouts k) next.first ∙ left_more callouts k next.plan next.others h
           ∙ ap₂ (λ j r. plan_line callouts j r ++ left_after callouts (suc k) next.others) (sym (add-one k)) same)
           g.begun
 
-      pub line-fits : length (plan_line callouts (k + 1) p) ≤ length (tail at page)
-      line-fits = fits (plan_line callouts (k + 1) p) (left_after callouts (suc k) next.others) line-next
+      pub line-fits : Room (plan_line callouts (k + 1) slots) q
+      line-fits = fits (plan_line callouts (k + 1) slots) (left_after callouts (suc k) next.others) line-next
 
-      line-written : {part : List ℕ} {r : ℕ} → Wrote (plan_line callouts (k + 1) p) (tail at page) part r
-          → Begun text (left_after callouts (suc k) next.others) old (put at page part) (at + r)
-      line-written = more (plan_line callouts (k + 1) p) (left_after callouts (suc k) next.others) line-next
-
-      pub line_end : {part : List ℕ} {r : ℕ} → Wrote (plan_line callouts (k + 1) p) (tail at page) part r → at + r ≤ length old
-      line_end w = let b = line-written w in omega (arith, b.within, b.sized)
-
-      pub given-more : {part : List ℕ} {r : ℕ} → Wrote (plan_line callouts (k + 1) p) (tail at page) part r
-          → {s' : Stepped} → s' ≡ step_of s.lister (length opens) (length opens) opens callouts
-          → Given opens callouts old (put at page part) s' (k + 1) (at + r)
-      given-more {part} {r} w {s'} q' =
+      pub given-more : {r : Page} → Put (plan_line callouts (k + 1) slots) q r → {s' : Stepped}
+          → s' ≡ step_of s.lister (length opens) (length opens) opens callouts
+          → Given opens callouts p r s' (k + 1)
+      given-more w {s'} q' =
           record {
             listed = omega arith;
             lister = s.lister;
             rest = next.others;
             step = q';
             listing = subst (λ e. IsListing (answer_of opens callouts) e next.others) (sym lister_is) next.listing;
-            begun = rw add-one (line-written w);
+            begun = rw add-one (more (plan_line callouts (k + 1) slots) (left_after callouts (suc k) next.others) line-next w);
           }
 
   -- the loop ends at 1,000 plans, or where the step was refused
-  pub given_last : (1000 ≤ k) ⊎ (s.answer.code ≢ 0) → {code : ℕ} → code ≡ s.answer.code → Begun text (end_or_more k code) old page at
-  given_last way {code} q =
-      let written : Begun text (end_or_more k s.answer.code) old page at = elim (ℕ_discrete s.answer.code 0) [
-        | yes z ↦ given-over z (⊎_elim (λ h. let l = g.listed in omega arith) (λ d. absurd (d z)) way)
-        | no d ↦ given_end d
-      ] in
-      rw q written
+  pub given_last : (1000 ≤ k) ⊎ (s.answer.code ≢ 0) → Begun text (end_or_more k s.answer.code) p q
+  given_last way = elim (ℕ_discrete s.answer.code 0) [
+    | yes z ↦ given-over z (⊎_elim (λ h. let l = g.listed in omega arith) (λ d. absurd (d z)) way)
+    | no d ↦ given_end d
+  ]

@@ -37,10 +37,6 @@ module _ (w o p : List ℕ) (f e d : ℕ) (F : Filled w o p f e d) where
   holds : (k : ℕ) → k < 64 → bit d k ≡ 1 → own o k < n
   holds k h b = F.table.item k h (F.dead.held k h b)
 
-  -- what `deficient_set` asks
-  pub dead-owners : (length o ≡ 64) × ((k : ℕ) → k < 64 → bit d k ≡ 1 → own o k < 64)
-  dead-owners = (F.table.owners, λ k h b. omega (arith, holds k h b, F.table.few))
-
   holders-lt : y < 2 ^ n
   unfolding holders
   holders-lt = image-lt (own o) 64 d n holds

@@ -5,15 +5,15 @@ use mathlib.Core.List.{List}
 use Prim.Native.Nat.{ℕ, ◌+◌, ◌-◌, ◌^◌, ◌≤◌, ◌<◌, min}
 use native.Mathlib.Nat.{le_trans}
 use native.Mathlib.Omega.{arith}
-use lib.ListN.{length, get_or, set, replicate, get_or-replicate}
+use lib.ListN.{length, get_or, replicate}
 use lib.Pow.{pow_pos}
 use Rattle.words.specs.Word.{bit, with, without, minus, low, lowest}
 use Rattle.words.proofs.Bits.{bit-lt, bit_empty, bit_one_lt, bit-minus, bit-low, low-lt, bit-with, bit-with_other, with-lt, bit-without, bit-without_other, without-le}
 use Rattle.words.proofs.SetLaws.{bit-with-le, bit-without-le, Common}
 use Rattle.words.proofs.Walk.{Walk, Turn, walk, turn}
-use Rattle.augment.specs.Table.{at, cell, Table, Matched, Exposed}
-use Rattle.augment.specs.Search.{Takeable, Taken, Assignable, Displaceable, Assigned, Barred, Same}
-use Rattle.augment.proofs.Moves.{same_or, take}
+use Rattle.augment.specs.Table.{Table, Matched, Exposed}
+use Rattle.augment.specs.Search.{Takeable, Taken, Assignable, Displaceable, Assigned, Barred}
+use Rattle.augment.proofs.Moves.{same_or, empty_table, empty-exposed}
 use Rattle.augment.proofs.Searches.{hole_takeable, hole_assigned}
 use Rattle.maximum.specs.Maximum.{Fillable, Dead, Filled}
 
@@ -31,6 +31,7 @@ pub record Filling (w : List ℕ) (wanting : ℕ) (o p : List ℕ) (f e d left :
 -- a turn: x is the item, rest what is left
 pub record FillTurn (w : List ℕ) (wanting : ℕ) (o p : List ℕ) (f e d left x rest : ℕ) : Type 0 where
   pub item : x < length w
+  pub below : x < 64
   pub less : rest < left
   -- it is given a free slot, if one is open to it
   pub takeable : {h : ℕ} → Common (get_or w x 0) f h → Takeable w o p f x h
@@ -40,8 +41,8 @@ pub record FillTurn (w : List ℕ) (wanting : ℕ) (o p : List ℕ) (f e d left 
   pub displaceable : {cand : ℕ} → cand ≡ minus (get_or w x 0) d → ((k : ℕ) → k < 64 → bit (get_or w x 0) k ≡ 1 → bit f k ≡ 0) → Displaceable w o p f x cand d
   pub found : {cand : ℕ} {o' p' : List ℕ} {f' k : ℕ} → Assigned w o p f x cand d o' p' f' k → Filling w wanting o' p' f' e d rest
   pub none : {cand e' : ℕ} → cand ≡ minus (get_or w x 0) d → cand ≡ 0 → e' ≡ with e x → Filling w wanting o p f e' d rest
-  pub failed : {cand : ℕ} → cand ≡ minus (get_or w x 0) d → {o' p' : List ℕ} {t e' : ℕ} → t < 2 ^ 64 → e' ≡ with e x
-      → Same o p o' p' × Barred w o f cand d t → Filling w wanting o' p' f e' t rest
+  pub failed : {cand : ℕ} → cand ≡ minus (get_or w x 0) d → {t e' : ℕ} → t < 2 ^ 64 → e' ≡ with e x
+      → Barred w o f cand d t → Filling w wanting o p f e' t rest
 
 pub filling_start : {w o p : List ℕ} {f wanting : ℕ} → wanting < 2 ^ 64 → Fillable w o p f wanting → Filling w wanting o p f 0 0 wanting
 filling_start {w} {wanting = wanting} h F =
@@ -178,11 +179,12 @@ module _ {w : List ℕ} {wanting : ℕ} {o p : List ℕ} {f e d left : ℕ} (F :
           };
         }
 
-    pub filling_turn : {x' rest' : ℕ} → x' ≡ x → rest' ≡ rest → FillTurn w wanting o p f e d left x' rest'
-    filling_turn ex er =
+    turn_of : {x' rest' : ℕ} → x' ≡ x → rest' ≡ rest → FillTurn w wanting o p f e d left x' rest'
+    turn_of ex er =
         rw (ex, er)
         (record {
           item = item;
+          below = omega (arith, item, F.table.few);
           less = visit.less;
           takeable = λ H. hole_takeable (assignable refl) (hole_cand refl H);
           taken = λ H N. served (hole_assigned (assignable refl) (hole_cand refl H) N);
@@ -190,47 +192,36 @@ module _ {w : List ℕ} {wanting : ℕ} {o p : List ℕ} {f e d left : ℕ} (F :
           displaceable = displaceable;
           found = served;
           none = λ ec z ee. rw ee (stays ec F.dead.fits (all-dead ec z));
-          failed = λ ec ht ee r. rw (ee, r.0.owner, r.0.slot) (stays ec ht r.1);
+          failed = λ ec ht ee r. rw ee (stays ec ht r);
         })
+
+  -- a step of the walk is a turn
+  pub filling_turn : {x' rest' : ℕ} → (left ≢ 0) × (x' ≡ lowest left) × (rest' ≡ without left (lowest left)) → FillTurn w wanting o p f e d left x' rest'
+  filling_turn s = turn_of s.0 s.1 s.2
 
 -- ---- no table yet
 
 module _ (w : List ℕ) (few : length w ≤ 64) (range : (x : ℕ) → x < length w → get_or w x 0 < 2 ^ 64) where
-  empty_table : Table w (replicate 64 0) (replicate 64 0) (low 64)
-  empty_table =
-      record {
-        few = few;
-        range = range;
-        owners = refl;
-        slots = refl;
-        item = λ k h b. absurd (omega (arith, bit-low 64 k h));
-        open_cell = λ k h b. absurd (omega (arith, bit-low 64 k h));
-        back = λ k h b. absurd (omega (arith, bit-low 64 k h));
-        zeros = λ x h g. get_or-replicate 64 x 0 0 g;
-      }
-
   pub all-fillable : (wanting : ℕ) → wanting ≡ low (length w) → Fillable w (replicate 64 0) (replicate 64 0) (low 64) wanting
   all-fillable wanting e =
       rw e
       (record {
-        table = empty_table;
+        table = empty_table w few range;
         items = low-lt (length w);
-        exposed = λ x b M. omega (arith, M.held, bit-low 64 (at (replicate 64 0) x) M.slot);
+        exposed = λ x b. empty-exposed x;
         matched = λ x h b. absurd (omega (arith, bit-low (length w) x h));
       })
 
 -- an item that wants a slot takes a free one that is open to it
-pub take-fillable : {w o p : List ℕ} {f wanting : ℕ} → Fillable w o p f wanting → (y h : ℕ) → bit wanting y ≡ 1 → h < 64 → bit f h ≡ 1 → cell w y h ≡ 1
-    → Fillable w (set o h y) (set p y h) (without f h) (without wanting y)
-take-fillable {w} {o} {p} {f} {wanting} F y h wants fits free may =
-    let t = take F.table y h (bit_one_lt (length w) wanting y F.items wants) (F.exposed y wants) fits free may in
-    record {
-      table = t.table;
-      items = omega (arith, F.items, without-le wanting y);
-      exposed = λ x b M. same_or x y
-          (λ e. omega (arith, ap (bit (without wanting y)) e, bit-without wanting y))
-          (λ d. F.exposed x (sym (bit-without_other wanting y x d) ∙ b) (t.new x d M));
-      matched = λ x l b. same_or x y
-          (λ e. rw e t.holds)
-          (λ d. t.stay x (F.matched x l (sym (bit-without_other wanting y x d) ∙ b)));
-    }
+pub take-fillable : {w o p : List ℕ} {f wanting y h : ℕ} {o' p' : List ℕ} {f' : ℕ} → Fillable w o p f wanting → Taken w o p f y h o' p' f'
+    → Fillable w o' p' f' (without wanting y)
+take-fillable {wanting = wanting} {y = y} F t = record {
+  table = t.table;
+  items = omega (arith, F.items, without-le wanting y);
+  exposed = λ x b M. same_or x y
+      (λ e. omega (arith, ap (bit (without wanting y)) e, bit-without wanting y))
+      (λ d. F.exposed x (sym (bit-without_other wanting y x d) ∙ b) (t.new x d M));
+  matched = λ x l b. same_or x y
+      (λ e. rw e t.holds)
+      (λ d. t.stay x (F.matched x l (sym (bit-without_other wanting y x d) ∙ b)));
+}

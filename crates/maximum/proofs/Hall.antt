@@ -34,10 +34,10 @@ pub record Maximal (w : List ℕ) : Type 0 where
 step : {w : List ℕ} {wanting : ℕ} {o p : List ℕ} {f e d left : ℕ} → Filling w wanting o p f e d left → left ≢ 0
     → ((o p : List ℕ) (f e d rest : ℕ) → rest < left → Filling w wanting o p f e d rest → Maximal w) → Maximal w
 step {w} {d = d} {left = left} F some ih =
-    let T = filling_turn F some refl refl in
+    let T = filling_turn F (some, refl, refl) in
     ⊎_elim
     (λ r. ih _ _ _ _ _ _ T.less (T.found r.holds))
-    (λ r. ih _ _ _ _ _ _ T.less (T.failed refl r.1 refl (record { owner = refl; slot = refl }, r.2)))
+    (λ r. ih _ _ _ _ _ _ T.less (T.failed refl r.1 refl r.2))
     (assign_or (omega (arith, minus-le (get_or w (lowest left) 0) d, F.table.range (lowest left) T.item)) F.dead.fits (T.assignable refl))
 
 done : {w : List ℕ} {wanting : ℕ} {o p : List ℕ} {f e d left : ℕ} → Filling w wanting o p f e d left → left ≡ 0 → Maximal w

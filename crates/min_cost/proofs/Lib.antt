@@ -1,4 +1,4 @@
 pub mod Levels
-pub mod Duals
+pub mod DualBounds
 pub mod Raises
 pub mod Squares

@@ -24,7 +24,7 @@ use Rattle.maximum.proofs.Deficient.{deficient_lt, deficient_ones, deficient_shu
 use Rattle.maximum.proofs.Filling.{all-fillable}
 use Rattle.min_cost.specs.Dual.{Square, Levels, Lifted, tight_word, Raisable, Raised}
 use Rattle.min_cost.proofs.Levels.{tight_bit}
-use Rattle.min_cost.proofs.Duals.{Duals, Tight, open_range, tight_open, open_tight, slot-below, bound}
+use Rattle.min_cost.proofs.DualBounds.{Duals, Tight, open_range, tight_open, open_tight, slot-below, bound}
 
 -- ---- the duals
 
@@ -157,26 +157,26 @@ module _ {w c l y : List ℕ} {up : ℕ} {u v : ℕ → ℕ} {r : ℕ} (A : Read
         record { plan = plan; u = u; v = v; ready = search; tight = ready_tight; filled = F }
 
 -- all numbers are 1 at first
-module _ {w c : List ℕ} (S : Square w c) {all : ℕ} (A : all ≡ low 64) where
-  pub start_ready : Ready w c (set (replicate 66 0) 1 all) (replicate 64 0) 0 (λ i. 0) (λ k. 1) 0
+module _ {w c : List ℕ} (S : Square w c) where
+  pub start_ready : Ready w c (set (replicate 66 0) 1 (low 64)) (replicate 64 0) 0 (λ i. 0) (λ k. 1) 0
   start_ready = record {
     square = S;
     duals = record { fair = λ i k h g b. omega arith; cap = λ i h. omega arith; total = sym (add-zero (sum (λ k. 1) (length w))) };
     levels = record {
       sized = refl;
       word = λ x k h g. same_or x 1
-          (λ q. omega (arith, ap (λ z. bit (get_or (set (replicate 66 0) 1 all) z 0) k) q, ap (λ z. bit z k) A, bit-low 64 k g))
-          (λ m. omega (arith, ap (λ z. bit z k) (get_or-set_other (replicate 66 0) 1 x all 0 m ∙ get_or-replicate 66 x 0 0 h), bit_empty k));
+          (λ q. omega (arith, ap (λ z. bit (get_or (set (replicate 66 0) 1 (low 64)) z 0) k) q, bit-low 64 k g))
+          (λ m. omega (arith, ap (λ z. bit z k) (get_or-set_other (replicate 66 0) 1 x (low 64) 0 m ∙ get_or-replicate 66 x 0 0 h), bit_empty k));
     };
     item_duals = refl;
     item_dual = λ i h. omega (arith, get_or-replicate {A = ℕ} 64 i 0 0 (omega (arith, S.few)), bit_empty i);
     small = λ i h. omega arith;
   }
 
-  pub start_fillable : {y t : List ℕ} {wanting : ℕ} → Raised w c (set (replicate 66 0) 1 all) (replicate 64 0) 0 y t → wanting ≡ low (length w)
-      → Fillable t (replicate 64 0) (replicate 64 0) all wanting
+  pub start_fillable : {y t : List ℕ} {wanting : ℕ} → Raised w c (set (replicate 66 0) 1 (low 64)) (replicate 64 0) 0 y t → wanting ≡ low (length w)
+      → Fillable t (replicate 64 0) (replicate 64 0) (low 64) wanting
   start_fillable {t} {wanting} R E =
-      rw A (all-fillable t (omega (arith, R.words, S.few)) (ready_tight start_ready R).range wanting (E ∙ ap low (sym R.words)))
+      all-fillable t (omega (arith, R.words, S.few)) (ready_tight start_ready R).range wanting (E ∙ ap low (sym R.words))
 
 -- a round: s items are exposed
 module _ {w c t y l o p : List ℕ} {f e d r : ℕ} (K : Rounds w c t y l o p f e d r) (some : e ≢ 0) {s : ℕ} (es : s ≡ ones e) where

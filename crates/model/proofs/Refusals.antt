@@ -3,10 +3,13 @@ use mathlib.Core.Path.{◌≡◌, refl, sym, ap, ◌∙◌}
 use mathlib.Core.Logic.{◌≢◌}
 use mathlib.Core.List.{List, ◌++◌}
 use Prim.Native.Nat.{ℕ, zero, suc, ◌^◌, ◌≤◌, ◌<◌}
+use Rattle.std.specs.Prelude.{Ok, Err}
 use native.Mathlib.Omega.{arith}
+use Rattle.std.proofs.Common.{lit<}
 use borrow.Author.Tests.{lt-ltb, le-ltb, ltb-false, eqb-false}
 use lib.ListN.{length, drop}
-use Rattle.model.specs.Refusal.{or_else, unless, written, size_code, tally_code, fleet_code, room_code}
+use Rattle.model.specs.declared.Refusal.{Refusal}
+use Rattle.model.specs.Refusal.{or_else, unless, written, size_code, tally_code, fleet_code, room_code, number, code_of}
 use Rattle.model.specs.Rota.{table_code}
 use Rattle.model.specs.CountAnswers.{sized_code}
 use Rattle.model.proofs.Members.{neither}
@@ -97,3 +100,40 @@ pub unless_code : {A : Type 0} (number : A → ℕ) (refusal : ℕ → A) → ((
 unfolding unless or_else
 unless_code number refusal f zero answer = refl
 unless_code number refusal f (suc c) answer = f (suc c)
+
+-- ---- a test's own result: r is what it refused with, code the number by its contract
+
+pub numbered : (r : Refusal) → 0 < number r
+unfolding number
+numbered r = elim r as (λ r. 0 < number r) [
+  | Refusal.BadN ↦ lit< tt
+  | Refusal.BadTableLength ↦ lit< tt
+  | Refusal.SlotOutside ↦ lit< tt
+  | Refusal.CalloutNotOpen ↦ lit< tt
+  | Refusal.TooManyToCount ↦ lit< tt
+  | Refusal.TallyTooShort ↦ lit< tt
+  | Refusal.BadFleet ↦ lit< tt
+  | Refusal.NotAPlan ↦ lit< tt
+  | Refusal.NoFurtherPlan ↦ lit< tt
+  | Refusal.BadFileLength ↦ lit< tt
+  | Refusal.BadCheck ↦ lit< tt
+  | Refusal.BadLayout ↦ lit< tt
+  | Refusal.OutputTooShort ↦ lit< tt
+  | Refusal.NoSuchPlan ↦ lit< tt
+]
+
+pub code-refused : (A : Type 0) (r : Refusal) {code : ℕ} → code_of {A = A} (Err r) ≡ code → (number r ≡ code) × (number r ≢ 0)
+unfolding code_of
+code-refused A r e = (e, λ z. omega (arith, numbered r))
+
+pub code_passed : {A : Type 0} (a : A) {code : ℕ} → code_of (Ok a) ≡ code → code ≡ 0
+unfolding code_of
+code_passed a e = sym e
+
+-- the answer of a call that r refused, and the buffer that it leaves
+module _ (A : Type 0) (r : Refusal) {code : ℕ} (e : code_of {A = A} (Err r) ≡ code) where
+  pub answers_number : {B : Type 0} (refusal : ℕ → B) (answer : B) → refusal (number r) ≡ unless refusal code answer
+  answers_number refusal answer = let d = code-refused A r e in refused-answer (number r) code d.1 (sym d.0) refusal answer
+
+  pub leaves_buffer : (values old : List ℕ) → old ≡ written code values old
+  leaves_buffer values old = let d = code-refused A r e in nothing_written (number r) code d.1 (sym d.0) values old

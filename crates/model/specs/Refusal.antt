@@ -1,5 +1,6 @@
 -- How refusals are combined: every call's answer and every lent buffer afterwards is written in these terms. Assumes nothing.
-use Rattle.std.specs.Prelude.{Bool, cond, ◌||◌, List, ◌++◌, ℕ, zero, suc, ◌^◌, eqb, ltb, leb, length, drop}
+use Rattle.std.specs.Prelude.{Bool, cond, ◌||◌, List, ◌++◌, ℕ, zero, suc, ◌^◌, eqb, ltb, leb, length, drop, Result, Ok, Err}
+use Rattle.model.specs.declared.Refusal.{Refusal}
 
 -- the first refusal of two: the later test counts only where the earlier one passes
 unfoldable pub or_else : ℕ → ℕ → ℕ
@@ -41,3 +42,28 @@ plan_code complete = cond complete 0 8
 -- 15: a lent output has fewer places than are to be written
 abbrev pub room_code : ℕ → ℕ → ℕ
 room_code places wanted = cond (ltb places wanted) 15 0
+
+-- ---- the tests' own results
+
+-- the number of a refusal (docs/RULES.md)
+unfoldable pub number : Refusal → ℕ
+number Refusal.BadN = 1
+number Refusal.BadTableLength = 2
+number Refusal.SlotOutside = 3
+number Refusal.CalloutNotOpen = 4
+number Refusal.TooManyToCount = 5
+number Refusal.TallyTooShort = 6
+number Refusal.BadFleet = 7
+number Refusal.NotAPlan = 8
+number Refusal.NoFurtherPlan = 10
+number Refusal.BadFileLength = 12
+number Refusal.BadCheck = 13
+number Refusal.BadLayout = 14
+number Refusal.OutputTooShort = 15
+number Refusal.NoSuchPlan = 16
+
+-- 0 where there is no refusal
+unfoldable pub code_of : {A : Type 0} → Result A Refusal → ℕ
+unfolding number
+code_of (Ok a) = 0
+code_of (Err r) = number r

@@ -1,12 +1,19 @@
-// The records that the public calls are lent and answer, in the field order that C programs are linked against
-// (include/rota.h). What they mean is in specs/.
+// The records that the public calls are lent and answer, in the field order that C programs are linked against (include/rota.h); the editions
+// of the file, and what a test refuses with. What they mean is in specs/.
 #![tactic(auto)]
+
+ghost use Rattle.std.specs.Prelude.{◌≡◌};
+ghost use Rattle.model.specs.Refusal.{number};
 
 // A complete plan, byte i being item i's slot; or the blank plan.
 #[repr(C)]
 #[derive(Clone, Copy)]
 pub struct Plan {
     pub slots: [u8; 64],
+}
+
+impl Plan {
+    pub const BLANK: Plan = Plan { slots: [255; 64] };
 }
 
 // The answer of a call that gives a plan.
@@ -78,4 +85,48 @@ pub struct WriteAnswer {
 #[derive(Clone, Copy)]
 pub enum Edition {
     One,
+}
+
+// What a test refuses with by its number alone: the refusals of docs/RULES.md but 9 and 11, which bring figures.
+#[derive(Clone, Copy)]
+pub enum Refusal {
+    BadN,
+    BadTableLength,
+    SlotOutside,
+    CalloutNotOpen,
+    TooManyToCount,
+    TallyTooShort,
+    BadFleet,
+    NotAPlan,
+    NoFurtherPlan,
+    BadFileLength,
+    BadCheck,
+    BadLayout,
+    OutputTooShort,
+    NoSuchPlan,
+}
+
+impl Refusal {
+    // Its number.
+    #[tactic(auto, unfolding(crate::specs::Refusal::number))]
+    pub fn number(self) -> u32
+        ensures { result ≡ number self }
+    {
+        match self {
+            Refusal::BadN => 1,
+            Refusal::BadTableLength => 2,
+            Refusal::SlotOutside => 3,
+            Refusal::CalloutNotOpen => 4,
+            Refusal::TooManyToCount => 5,
+            Refusal::TallyTooShort => 6,
+            Refusal::BadFleet => 7,
+            Refusal::NotAPlan => 8,
+            Refusal::NoFurtherPlan => 10,
+            Refusal::BadFileLength => 12,
+            Refusal::BadCheck => 13,
+            Refusal::BadLayout => 14,
+            Refusal::OutputTooShort => 15,
+            Refusal::NoSuchPlan => 16,
+        }
+    }
 }

@@ -1,6 +1,6 @@
 -- The loop of `advance`: from the last item down to i none can go above its slot in a plan that gives the items before it the same
 -- slots. The first that can gives the next plan. Assumes nothing.
-use mathlib.Core.Path.{◌≡◌, sym, ap, ◌∙◌}
+use mathlib.Core.Path.{◌≡◌, refl, sym, ap, ◌∙◌}
 use mathlib.Core.Logic.{◌≢◌, ◌⊎◌, inr}
 use mathlib.Core.List.{List}
 use Prim.Native.Nat.{ℕ, ◌+◌, ◌-◌, ◌^◌, ◌≤◌, ◌<◌}
@@ -15,7 +15,7 @@ use Rattle.model.specs.PlanAnswers.{next_of, given, refused}
 use Rattle.model.specs.Lists.{Before}
 use Rattle.model.proofs.Laws.{next-of, next_of-none}
 use Rattle.augment.specs.Table.{own, at, Complete}
-use Rattle.augment.specs.Search.{Within, Same}
+use Rattle.augment.specs.Search.{Within}
 use Rattle.augment.proofs.Moves.{same_or}
 use Rattle.augment.proofs.Completes.{complete-plan}
 use Rattle.least.specs.Least.{Stuck, Lowered, LaterWithin, Prefix, Minimizable, Settleable, SameTo, Settled}
@@ -57,15 +57,12 @@ pub record Trying (w g o p : List ℕ) (f fixed after x : ℕ) : Type 0 where
   pub later : LaterWithin w x after
   pub stuck : (y : ℕ) → x < y → y < length w → (q : List ℕ) → IsPlan w q → SameTo q g y → at q y ≤ at g y
 
-pub advancing_slot : {w g o p : List ℕ} {f fixed after i : ℕ} → Advancing w g o p f fixed after i → 0 < i → at g (i - 1) < 64
-advancing_slot {i} A some = (A.before.complete.all (i - 1) (omega (arith, A.within))).slot
-
-pub advancing_trying : {w g o p : List ℕ} {f fixed after i s fixed' : ℕ} → Advancing w g o p f fixed after i → 0 < i → s ≡ at g (i - 1)
+pub advancing_trying : {w g o p : List ℕ} {f fixed after i s fixed' : ℕ} → Advancing w g o p f fixed after i → 0 < i → s ≡ at p (i - 1)
     → fixed' ≡ without fixed s → Trying w g o p f fixed' after (i - 1)
 advancing_trying {w} {g} {o} {fixed} {i} A some es ek =
     let P = A.before in let C = P.complete in let k₀ = at g (i - 1) in
-    let known : i - 1 < length w = omega (arith, A.within) in rw (ek, es) (record {
-      slots = A.slots;
+    let known : i - 1 < length w = omega (arith, A.within) in rw (ek, es, A.slots) (record {
+      slots = refl;
       before = record {
         complete = C;
         held = λ k h b. P.held k h (omega (arith, bit-without-le fixed k₀ k, bit-lt fixed k));
@@ -98,27 +95,24 @@ module _ {w g o p : List ℕ} {f fixed after x : ℕ} (T : Trying w g o p f fixe
   trying_minimizable = rw T.slots (search)
 
   -- x can't advance
-  pub trying_stuck : {o' p' : List ℕ} → Same o p o' p' × Stuck w o x (above w p x) fixed → Advancing w g o' p' f fixed (bit_or after (get_or w x 0)) x
-  trying_stuck r = rw r.0.owner (record {
+  pub trying_stuck : Stuck w o x (above w p x) fixed → Advancing w g o p f fixed (bit_or after (get_or w x 0)) x
+  trying_stuck r = record {
     few = C.table.few;
-    slots = r.0.slot ∙ T.slots;
+    slots = T.slots;
     before = T.before;
     within = omega (arith, T.known);
     later = later-with w after x T.later;
     stuck = λ y h l q Q S. same_or y x
         (λ e. rw e (lt-or (at g x) (at q x)
-        (λ m. absurd (omega (arith, (rw T.slots at r.1) q Q (prefix_agrees T.before q (λ z n. S z (omega arith))), above_open Q m)))
+        (λ m. absurd (omega (arith, (rw T.slots at r) q Q (prefix_agrees T.before q (λ z n. S z (omega arith))), above_open Q m)))
         (λ m. m)))
         (λ d. T.stuck y (omega arith) l q Q S);
-  })
+  }
 
   -- x has advanced to k
   module _ {o' p' : List ℕ} {f' k : ℕ} (L : Lowered w o x (above w p x) fixed o' p' f' k) where
     M : Lowered w o x (above w g x) fixed o' p' f' k
     M = rw T.slots at L
-
-    pub trying_below : k < 64
-    trying_below = omega (arith, M.slot, (M.complete.all x T.known).slot)
 
     pub trying_settleable : {fixed₂ : ℕ} → fixed₂ ≡ with fixed k → Settleable w o' p' f' (x + 1) fixed₂
     trying_settleable e = record { before = prefix_next T.before T.known (lowered_shifted M) e; within = omega (arith, T.known) }

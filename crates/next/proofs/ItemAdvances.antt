@@ -12,8 +12,8 @@ use Rattle.words.proofs.SetLaws.{bit-not-from, Common}
 use Rattle.augment.specs.Table.{at}
 use Rattle.augment.specs.Search.{Within, UnheldIn, Vacant}
 use Rattle.augment.proofs.Vacants.{unheld_part, unheld-none}
-use Rattle.least.specs.Least.{Fixed, Shiftable, Shifted, Stuck, Lowerable, Lowered, Minimizable}
-use Rattle.least.proofs.Shifts.{own-slot, slot_small, not_fixed, still_fixed, moved_lowerable, Near}
+use Rattle.least.specs.Least.{Fixed, Shiftable, Shifted, Stuck, Lowerable, Lowered, Near, Minimizable}
+use Rattle.least.proofs.Shifts.{own-slot, slot_small, not_fixed, still_fixed, moved_lowerable}
 use Rattle.least.proofs.Settles.{minimize_fixed, minimize_slot, pinned}
 use Rattle.next.specs.Next.{above}
 
@@ -54,9 +54,6 @@ module _ {w o p : List ℕ} {f x fixed hit may : ℕ} (R : Rising w o p f x fixe
 
   pub rising_vacant : UnheldIn o p f (bit_and (get_or w x 0) may) (bit_and hit may)
   rising_vacant = unheld_part may R.hit_is
-
-  pub rising-below : {o₁ o₂ p₂ : List ℕ} {f₂ j : ℕ} → Lowered w o₁ x may fixed o₂ p₂ f₂ j → j < 64
-  rising-below L = omega (arith, L.slot, (L.complete.all x R.fixed_held.known).slot)
 
   pub rising_lowered : {o₂ p₂ : List ℕ} {f₂ j : ℕ} → Lowered w o x may fixed o₂ p₂ f₂ j → Lowered w o x (above w p x) fixed o₂ p₂ f₂ j
   rising_lowered L = rw R.may_is at L

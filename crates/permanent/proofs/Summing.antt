@@ -19,12 +19,11 @@ pub record Partial (opened : ℕ) (counts : List ℕ) (set left ways : ℕ) : Ty
   pub small : left < 2 ^ 64
   pub whole : ways + sum (λ j. bit left j * get_or counts (without set j) 0) 64 ≡ served opened counts set
 
--- a turn takes the lowest slot of `left` and adds the word at `at`
-pub record Summing (opened : ℕ) (counts : List ℕ) (set left ways at : ℕ) : Type 0 where
+-- a turn takes a slot, leaves `rest`, and adds the word at `at`
+pub record Summing (opened : ℕ) (counts : List ℕ) (set rest ways at : ℕ) : Type 0 where
   pub below : at < set
   pub fits : ways + get_or counts at 0 ≤ served opened counts set
-  pub less : without left (lowest left) < left
-  pub next : Partial opened counts set (without left (lowest left)) (ways + get_or counts at 0)
+  pub next : Partial opened counts set rest (ways + get_or counts at 0)
 
 pub summing_start : (opened : ℕ) (counts : List ℕ) (set : ℕ) → set < 2 ^ 64 → Partial opened counts set (bit_and set opened) 0
 unfolding served
@@ -34,27 +33,31 @@ summing_start opened counts set h = record {
   whole = zero-add _ ∙ sum-and (λ j. get_or counts (without set j) 0) 64 set opened;
 }
 
-module _ {opened : ℕ} {counts : List ℕ} {set left ways : ℕ} (part : Partial opened counts set left ways) (some : left ≢ 0) where
-  pub slot_lt : lowest left < 64
-  slot_lt = lowest-lt left some part.small
+module _ {opened : ℕ} {counts : List ℕ} {set left rest ways slot : ℕ} (part : Partial opened counts set left ways)
+    (step : (left ≢ 0) × (slot ≡ lowest left) × (rest ≡ without left (lowest left))) where
+  pub slot_lt : slot < 64
+  slot_lt = rw step.1 (lowest-lt left step.0 part.small)
 
-  pub summing_turn : {at : ℕ} → at ≡ without set (lowest left) → Summing opened counts set left ways at
+  pub summing_turn : {at : ℕ} → at ≡ without set slot → Summing opened counts set rest ways at
   summing_turn {at} e =
       let j = lowest left in
-      let own : bit left j ≡ 1 = bit-lowest left some part.small in
+      let own : bit left j ≡ 1 = bit-lowest left step.0 part.small in
       let under : without set j < set = without-less set j (omega (arith, part.inside j, bit-lt set j)) in
-      let apart = sum-without (λ i. get_or counts (without set i) 0) 64 left j slot_lt own in
-      let read : get_or counts at 0 ≡ get_or counts (without set j) 0 = ap (λ i. get_or counts i 0) e in
-      record {
+      let apart = sum-without (λ i. get_or counts (without set i) 0) 64 left j (lowest-lt left step.0 part.small) own in
+      let place : at ≡ without set j = e ∙ ap (without set) step.1 in
+      let read : get_or counts at 0 ≡ get_or counts (without set j) 0 = ap (λ i. get_or counts i 0) place in
+      rw step.2 (record {
         below = omega arith;
         fits = omega (arith, part.whole);
-        less = without-less left j own;
         next = record {
           inside = λ i. le_trans (bit-without-le left j i) (part.inside i);
           small = omega (arith, without-le left j, part.small);
           whole = omega (arith, part.whole);
         };
-      }
+      })
 
-pub summing_end : {opened : ℕ} {counts : List ℕ} {set ways : ℕ} → Partial opened counts set 0 ways → ways ≡ served opened counts set
-summing_end {counts = counts} {set = set} part = omega (arith, part.whole, sum_empty (λ j. get_or counts (without set j) 0) 64)
+pub summing_end : {opened : ℕ} {counts : List ℕ} {set left ways : ℕ} → Partial opened counts set left ways → left ≡ 0
+    → ways ≡ served opened counts set
+summing_end {counts = counts} {set = set} part e =
+    let none = ap (λ l. sum (λ j. bit l j * get_or counts (without set j) 0) 64) e in
+    omega (arith, part.whole, none, sum_empty (λ j. get_or counts (without set j) 0) 64)

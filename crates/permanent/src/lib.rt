@@ -11,20 +11,14 @@ fn last_open(opens: &[u64], k: usize) -> u64
     requires { 0 < k }
     ensures { result ≡ get_or opens.now (k - 1) 0 }
 {
-    if opens.len() < k {
-        return 0;
-    }
-    opens[k - 1]
+    opens.get(k - 1).copied().unwrap_or(0)
 }
 
 // What a set of k slots adds to the count for n items.
 fn complete(k: usize, n: usize, ways: u64) -> u64
     ensures { result ≡ cond (eqb k n) ways 0 }
 {
-    if k == n {
-        return ways;
-    }
-    0
+    if k == n { ways } else { 0 }
 }
 
 // The word of a set, from the words below it: an item takes one of its open slots in the set, the other items the rest.
@@ -32,12 +26,9 @@ fn subset_count(opened: u64, counts: &[u64], set: u64) -> u64
     requires { (set ≤ length counts.now) × (served opened counts.now set < 2 ^ 64) }
     ensures { result ≡ served opened counts.now set }
 {
-    let mut left = set & opened;
     let mut ways: u64 = 0;
-    while left != 0 {
-        let slot = words::lowest(left);
+    for slot in words::Slots(set & opened) {
         ways += counts[words::without(set, slot) as usize];
-        left = words::without_lowest(left);
     }
     ways
 }
@@ -53,13 +44,11 @@ pub fn count_subsets(m: usize, opens: &[u64], counts: &mut [u64]) -> u64
     let n = opens.len();
     counts[0] = 1;
     let mut plans = complete(0, n, 1);
-    let mut set: u64 = 1;
-    while set < end {
+    for set in 1..end {
         let k = words::size(set);
         let ways = subset_count(last_open(opens, k), counts, set);
         counts[set as usize] = ways;
         plans += complete(k, n, ways);
-        set += 1;
     }
     plans
 }

@@ -1,4 +1,3 @@
-mod LastFirst
 pub mod LastWritten
 mod PlanWalk
 mod Unranking

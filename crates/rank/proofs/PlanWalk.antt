@@ -3,7 +3,7 @@
 use mathlib.Core.Path.{◌≡◌, sym, ap, ap₂, ◌∙◌}
 use mathlib.Core.Logic.{◌≢◌}
 use mathlib.Core.List.{List, [], ◌∷◌, ◌++◌, map, append_assoc, append-nil}
-use Prim.Native.Nat.{ℕ, suc, ◌+◌, ◌-◌, ◌*◌, ◌^◌, ◌≤◌, ◌<◌}
+use Prim.Native.Nat.{ℕ, suc, ◌+◌, ◌-◌, ◌^◌, ◌≤◌, ◌<◌}
 use native.Mathlib.Nat.{le_trans, lt_of_lt_of_le, add-zero}
 use native.Mathlib.Omega.{arith}
 use lib.Bits.{bit_and, and_le_r}
@@ -84,7 +84,7 @@ module _ {opens tally : List ℕ} {i set left number : ℕ} {p : List ℕ} (read
   pub in_tally : without set (lowest left) < length tally
   in_tally = omega (arith, others-lt, ready.words)
 
-  pub fewer : without left (lowest left) < left
+  fewer : without left (lowest left) < left
   fewer = without-less left (lowest left) own
 
   -- the ways for the further items
@@ -184,13 +184,3 @@ walk_end {opens} {i} {set} {left} {number} {p} w h =
       ap (λ k. get_or (all_ways opens) k []) (sym (add-zero number)) ∙ w.at 0 (omega arith) ∙ ap₂ (λ k l. take k p ++ get_or l 0 []) last none
           ∙ append-nil (take (length opens) p),
     )
-
--- how far the walk is from its end: a turn takes a slot from `left`, or goes on to the next item
-abbrev pub remaining : List ℕ → ℕ → ℕ → ℕ
-remaining opens i left = (length opens - i) * 2 ^ 20 + left
-
-pub one_less : {opens : List ℕ} {i set left' number : ℕ} {p : List ℕ} (left : ℕ) → Walking opens (suc i) set left' number p → remaining opens (suc i) left' < remaining opens i left
-one_less {opens} {i} {left' = left'} left w =
-    let items = w.items in
-    let most : 2 ^ length opens ≤ 2 ^ 20 = pow_mono w.few in
-    omega (arith, w.bounded)

@@ -17,7 +17,7 @@ use Rattle.model.proofs.Permanent.{count-matchings}
 use Rattle.model.proofs.Subsets.{count-le}
 use Rattle.model.proofs.Ranks.{rank-unrank, unrank_way}
 use Rattle.rank.specs.LastTally.{LastTally, Square}
-use Rattle.rank.proofs.PlanWalk.{Walking, remaining, walk_start, slot_lt, in_tally, fewer, below_all, passed, taken, one_less, walk_end}
+use Rattle.rank.proofs.PlanWalk.{Walking, walk_start, slot_lt, in_tally, below_all, passed, taken, walk_end}
 
 pub record Ranking (opens : List ℕ) (i slots left number : ℕ) (p : List ℕ) : Type 0 where
   pub walk : Walking opens i slots left number p
@@ -25,16 +25,14 @@ pub record Ranking (opens : List ℕ) (i slots left number : ℕ) (p : List ℕ)
   pub later : (j : ℕ) → i ≤ j → j < length opens → bit slots (get_or p j 0) ≡ 1
   pub own : i < length opens → bit left (get_or p i 0) ≡ 1
 
--- a turn looks at a slot of item i, and at the set of the others
-pub record RankTurn (opens tally : List ℕ) (i slots left number : ℕ) (p : List ℕ) (slot others : ℕ) : Type 0 where
+-- a turn takes a slot of item i and leaves `rest`; it looks at the set of the others
+pub record RankTurn (opens tally : List ℕ) (i slots rest number : ℕ) (p : List ℕ) (slot others : ℕ) : Type 0 where
   pub in_tally : others < length tally
   pub fits : number + get_or tally others 0 ≤ 2432902008176640000
   -- the plan has another slot there
-  pub passed_over : slot ≢ get_or p i 0
-      → Ranking opens i slots (without left (lowest left)) (number + get_or tally others 0) p × (remaining opens i (without left (lowest left)) < remaining opens i left)
+  pub passed_over : slot ≢ get_or p i 0 → Ranking opens i slots rest (number + get_or tally others 0) p
   -- it has this one
-  pub given : slot ≡ get_or p i 0 → {left' : ℕ} → left' ≡ bit_and (get_or opens (i + 1) 0) others
-      → Ranking opens (i + 1) others left' number p × (remaining opens (i + 1) left' < remaining opens i left)
+  pub given : slot ≡ get_or p i 0 → Ranking opens (i + 1) others (bit_and (get_or opens (i + 1) 0) others) number p
 
 -- an open slot of the set
 both_bits : (a b j : ℕ) → bit a j ≡ 1 → bit b j ≡ 1 → bit (bit_and a b) j ≡ 1
@@ -58,40 +56,34 @@ module _ {opens tally p : List ℕ} (ready : LastTally opens tally) (P : IsPlan 
     pub slot-fits : {slot : ℕ} → slot ≡ lowest left → slot < 20
     slot-fits e = omega (arith, slot_lt ready u.walk more some_left, ready.few)
 
-    at-lowest : RankTurn opens tally i slots left number p (lowest left) (without slots (lowest left))
+    at-lowest : RankTurn opens tally i slots (without left (lowest left)) number p (lowest left) (without slots (lowest left))
     at-lowest =
         let w = u.walk in
         let others = without slots (lowest left) in
         record {
           in_tally = in_tally ready w more some_left;
           fits = omega (arith, below_all ready w more some_left, count-matchings (length opens) opens, count-le (length opens) opens ready.few);
-          passed_over = λ d. (
-            record {
-              walk = passed ready w more some_left;
-              later = u.later;
-              own = λ h. bit-without_other left (lowest left) (get_or p i 0) (λ q. d (sym q)) ∙ u.own h;
-            },
-            omega (arith, fewer ready w more some_left),
-          );
-          given = λ q {left'} el. rw add-one
+          passed_over = λ d. record {
+            walk = passed ready w more some_left;
+            later = u.later;
+            own = λ h. bit-without_other left (lowest left) (get_or p i 0) (λ q. d (sym q)) ∙ u.own h;
+          };
+          given = λ q. rw add-one
               (let upto : take (suc i) p ≡ take i p ++ (lowest left ∷ []) =
               take-suc p i 0 (omega (arith, P.sized, ready.few)) ∙ ap (λ s. take i p ++ (s ∷ [])) (sym q) in
-              let e' = rw add-one at el in
-              let t : Walking opens (suc i) others left' number p = (taken ready w more some_left upto e').0 in
               let later : (j : ℕ) → suc i ≤ j → j < length opens → bit others (get_or p j 0) ≡ 1 = λ j l h.
               let other : get_or p j 0 ≢ lowest left = λ s. (let z : j ≡ i = P.once j i h more (s ∙ q) in omega arith) in
-              bit-without_other slots (lowest left) (get_or p j 0) other ∙ u.later j (omega arith) h in (
-                record {
-                  walk = t;
-                  later = later;
-                  own = λ h. rw e' (both_bits (get_or opens (suc i) 0) others (get_or p (suc i) 0) (P.open_cell (suc i) h) (later (suc i) (omega arith) h));
-                },
-                one_less left t,
-              ));
+              bit-without_other slots (lowest left) (get_or p j 0) other ∙ u.later j (omega arith) h in
+              record {
+                walk = (taken ready w more some_left upto refl).0;
+                later = later;
+                own = λ h. both_bits (get_or opens (suc i) 0) others (get_or p (suc i) 0) (P.open_cell (suc i) h) (later (suc i) (omega arith) h);
+              });
         }
 
-    pub rank_turn : {slot others : ℕ} → slot ≡ lowest left → others ≡ without slots slot → RankTurn opens tally i slots left number p slot others
-    rank_turn es eo = rw (eo, es) at-lowest
+    pub rank_turn : {slot rest others : ℕ} → (left ≢ 0) × (slot ≡ lowest left) × (rest ≡ without left (lowest left)) → others ≡ without slots slot
+        → RankTurn opens tally i slots rest number p slot others
+    rank_turn step eo = rw (step.2, eo, step.1) at-lowest
 
   pub ranking_end : {i slots left number : ℕ} → Ranking opens i slots left number p → length opens ≤ i → number ≡ rank (length opens) opens p
   ranking_end {number = number} u h =

@@ -16,7 +16,7 @@ use Rattle.model.proofs.Plans.{padded-take}
 use Rattle.model.proofs.Permanent.{count-matchings}
 use Rattle.model.proofs.Ranks.{ways_left, unrank_way, none_left}
 use Rattle.rank.specs.LastTally.{LastTally}
-use Rattle.rank.proofs.PlanWalk.{Walking, remaining, ahead, all_ways, walk_start, slot_lt, in_tally, fewer, both, passed, taken, one_less, walk_end}
+use Rattle.rank.proofs.PlanWalk.{Walking, ahead, all_ways, walk_start, slot_lt, in_tally, both, passed, taken, walk_end}
 
 pub record Unranking (opens : List ℕ) (k i slots left further : ℕ) (p : List ℕ) : Type 0 where
   pub walk : Walking opens i slots left (k - further) p
@@ -38,15 +38,13 @@ unranking_start opens tally k {slots} {left} ready h es el =
       zeros = λ j l g. get_or-replicate 64 j 0 0 g;
     }
 
--- a turn looks at a slot of item i, and at the set of the others
-pub record UnrankTurn (opens tally : List ℕ) (k i slots left further : ℕ) (p : List ℕ) (slot others : ℕ) : Type 0 where
+-- a turn takes a slot of item i and leaves `rest`; it looks at the set of the others
+pub record UnrankTurn (opens tally : List ℕ) (k i slots rest further : ℕ) (p : List ℕ) (slot others : ℕ) : Type 0 where
   pub in_tally : others < length tally
   -- the plan sought has another slot there
-  pub passed_over : get_or tally others 0 ≤ further
-      → Unranking opens k i slots (without left (lowest left)) (further - get_or tally others 0) p × (remaining opens i (without left (lowest left)) < remaining opens i left)
+  pub passed_over : get_or tally others 0 ≤ further → Unranking opens k i slots rest (further - get_or tally others 0) p
   -- it has this one
-  pub given : further < get_or tally others 0 → {left' : ℕ} → left' ≡ bit_and (get_or opens (i + 1) 0) others
-      → Unranking opens k (i + 1) others left' further (set p i slot) × (remaining opens (i + 1) left' < remaining opens i left)
+  pub given : further < get_or tally others 0 → Unranking opens k (i + 1) others (bit_and (get_or opens (i + 1) 0) others) further (set p i slot)
 
 module _ {opens tally : List ℕ} {k i slots left further : ℕ} {p : List ℕ} (ready : LastTally opens tally) (u : Unranking opens k i slots left further p)
     (more : i < length opens) where
@@ -59,7 +57,7 @@ module _ {opens tally : List ℕ} {k i slots left further : ℕ} {p : List ℕ} 
   pub slot-fits : {slot : ℕ} → slot ≡ lowest left → slot < 20
   slot-fits e = omega (arith, slot_lt ready u.walk more some_left, ready.few)
 
-  at-lowest : UnrankTurn opens tally k i slots left further p (lowest left) (without slots (lowest left))
+  at-lowest : UnrankTurn opens tally k i slots (without left (lowest left)) further p (lowest left) (without slots (lowest left))
   at-lowest =
       let w = u.walk in
       let ways = get_or tally (without slots (lowest left)) 0 in
@@ -67,33 +65,30 @@ module _ {opens tally : List ℕ} {k i slots left further : ℕ} {p : List ℕ} 
         in_tally = in_tally ready w more some_left;
         passed_over = λ h.
             let split = both ready w more some_left in
-            let number : k - (further - ways) ≡ (k - further) + ways = omega (arith, u.within) in (
-              record {
-                walk = rw number (passed ready w more some_left);
-                within = omega (arith, u.within);
-                under = omega (arith, u.under);
-                sized = u.sized;
-                zeros = u.zeros;
-              },
-              omega (arith, fewer ready w more some_left),
-            );
-        given = λ h {left'} el. rw add-one
-            (let t = taken ready w more some_left (take-suc-set p i (lowest left) (omega (arith, u.sized, ready.few))) (rw add-one at el) in (
-              record {
-                walk = t.0;
-                within = u.within;
-                under = rw t.1 h;
-                sized = length-set p i (lowest left) ∙ u.sized;
-                zeros = λ j l g.
-                    let other : j ≢ i = λ q. omega arith in
-                    get_or-set_other p i j (lowest left) 0 other ∙ u.zeros j (omega arith) g;
-              },
-              one_less left t.0,
-            ));
+            let number : k - (further - ways) ≡ (k - further) + ways = omega (arith, u.within) in
+            record {
+              walk = rw number (passed ready w more some_left);
+              within = omega (arith, u.within);
+              under = omega (arith, u.under);
+              sized = u.sized;
+              zeros = u.zeros;
+            };
+        given = λ h. rw add-one
+            (let t = taken ready w more some_left (take-suc-set p i (lowest left) (omega (arith, u.sized, ready.few))) refl in
+            record {
+              walk = t.0;
+              within = u.within;
+              under = rw t.1 h;
+              sized = length-set p i (lowest left) ∙ u.sized;
+              zeros = λ j l g.
+                  let other : j ≢ i = λ q. omega arith in
+                  get_or-set_other p i j (lowest left) 0 other ∙ u.zeros j (omega arith) g;
+            });
       }
 
-  pub unrank_turn : {slot others : ℕ} → slot ≡ lowest left → others ≡ without slots slot → UnrankTurn opens tally k i slots left further p slot others
-  unrank_turn es eo = rw (eo, es) at-lowest
+  pub unrank_turn : {slot rest others : ℕ} → (left ≢ 0) × (slot ≡ lowest left) × (rest ≡ without left (lowest left)) → others ≡ without slots slot
+      → UnrankTurn opens tally k i slots rest further p slot others
+  unrank_turn step eo = rw (step.2, eo, step.1) at-lowest
 
 pub unranking_end : {opens : List ℕ} {k i slots left further : ℕ} {p : List ℕ} → Unranking opens k i slots left further p → length opens ≤ i
     → p ≡ unrank (length opens) opens k

@@ -9,13 +9,14 @@ use lib.ListN.{length}
 use Rattle.model.specs.declared.PlanAnswer.{PlanAnswer}
 use Rattle.model.specs.declared.CountAnswer.{CountAnswer}
 use Rattle.model.specs.declared.GradeAnswer.{GradeAnswer}
+use Rattle.model.specs.Refusal.{unless}
 use Rattle.model.specs.Plans.{plans}
 use Rattle.model.specs.Count.{count}
 use Rattle.model.specs.Grade.{some_forced, grade_of, rota_grade}
 use Rattle.model.specs.PlanAnswers.{first_from, first_of, no_plan}
 use Rattle.model.specs.CountAnswers.{count_refused, count_unless, sized_code}
 use Rattle.model.specs.PriceAnswers.{grade_given, grade_refused, grade_short, grade_by, grade_unless}
-use Rattle.model.proofs.Refusals.{sized_passed, refused-answer, accepted-answer}
+use Rattle.model.proofs.Refusals.{sized_passed, accepted-answer}
 use Rattle.model.proofs.Slots.{first_wide, forced_wide}
 use Rattle.rota.proofs.TableCalls.{Passed}
 
@@ -43,49 +44,44 @@ first_says m opens a ea = go (plans m opens) refl ea
     go [] q e = record { none = λ d. (e, ap length q); some = λ z. absurd (omega (arith, sym (ap (λ (x : PlanAnswer). x.code) e) ∙ z)) }
     go (p ∷ l) q e = record { none = λ d. absurd (d (ap (λ (x : PlanAnswer). x.code) e)); some = λ z. omega (arith, ap length q) }
 
--- ---- refused
+-- ---- counted
 
-module _ (m : ℕ) (opens : List ℕ) (c code : ℕ) (e : c ≡ code) (d : c ≢ 0) where
-  pub count-refused : count_refused c ≡ count_unless code m opens
-  unfolding count_unless
-  count-refused = refused-answer c code d (sym e) count_refused _
+pub counted : {n m : ℕ} {opens callouts : List ℕ} {code : ℕ} → Countable n m opens callouts code → {number : ℕ} → number ≡ count m opens
+    → {a : CountAnswer} → a ≡ record { code = 0; count = number } → a ≡ count_unless code m opens
+unfolding count_unless
+counted able q e =
+    let whole : ℕ → CountAnswer = λ x. record { code = 0; count = x } in
+    e ∙ ap whole q ∙ accepted-answer _ able.none count_refused _
 
-  pub grade-refused : grade_refused c ≡ grade_unless code m opens
-  unfolding grade_unless
-  grade-refused = refused-answer c code d (sym e) grade_refused _
+-- ---- graded
 
--- ---- counted, without a plan, graded
+module _ {n m : ℕ} {opens callouts : List ℕ} where
+  says : Passed n m opens callouts → {found : PlanAnswer} → found ≡ first_from 64 opens → TellsCount m opens found
+  says p {found} e = first_says m opens found (e ∙ first_wide n m opens callouts p.code p.slots)
 
-module _ {n m : ℕ} {opens callouts : List ℕ} {code : ℕ} (able : Countable n m opens callouts code) where
-  pub count_done : {number : ℕ} → number ≡ count m opens → record { code = 0; count = number } ≡ count_unless code m opens
-  unfolding count_unless
-  count_done q = let whole : ℕ → CountAnswer = λ x. record { code = 0; count = x } in ap whole q ∙ accepted-answer code able.none count_refused _
+  -- refused, or 9 by what the search found
+  pub grade_ends : (code : ℕ) → (code ≡ 0 → Passed n m opens callouts) → (found : PlanAnswer) → (code ≡ 0 → (found ≡ first_from 64 opens) × (found.code ≢ 0))
+      → {a : GradeAnswer} → a ≡ unless grade_refused code (grade_short found.shortage found.items) → (a ≡ grade_unless code m opens) × (a.code ≢ 0)
+  unfolding grade_unless unless no_plan grade_by
+  grade_ends zero P found F q =
+      let none = (says (P refl) (F refl).0).none (F refl).1 in
+      let short : PlanAnswer → GradeAnswer = λ x. grade_short x.shortage x.items in
+      let by : ℕ → GradeAnswer = λ k. grade_by opens k (rota_grade m opens) in
+      (q ∙ ap short none.0 ∙ sym (ap by none.1), λ z. omega (arith, z, ap (λ (x : GradeAnswer). x.code) q))
+  grade_ends (suc k) P found F q = (q, λ z. omega (arith, z, ap (λ (x : GradeAnswer). x.code) q))
 
-  graded : grade_by opens (count m opens) (rota_grade m opens) ≡ grade_unless code m opens
-  unfolding grade_unless
-  graded = accepted-answer code able.none grade_refused _
+  module _ {code : ℕ} (able : Countable n m opens callouts code) {found : PlanAnswer} (e : found ≡ first_from 64 opens) (z : found.code ≡ 0)
+      {number : ℕ} (q : number ≡ count m opens) where
+    pub some-plan : 0 < number
+    some-plan = subst (0 <◌) (sym q) ((says able.passed e).some z)
 
-  module _ {a : PlanAnswer} (ea : a ≡ first_from 64 opens) where
-    says : TellsCount m opens a
-    says = first_says m opens a (ea ∙ first_wide n m opens callouts able.passed.code able.passed.slots)
-
-    pub grade-none : a.code ≢ 0 → grade_short a.shortage a.items ≡ grade_unless code m opens
-    unfolding no_plan grade_by
-    grade-none d =
-        let short : PlanAnswer → GradeAnswer = λ x. grade_short x.shortage x.items in
-        let by : ℕ → GradeAnswer = λ k. grade_by opens k (rota_grade m opens) in
-        ap short (says.none d).0 ∙ sym (ap by (says.none d).1) ∙ graded
-
-    module _ (y : a.code ≡ 0) {number : ℕ} (q : number ≡ count m opens) where
-      pub some-plan : 0 < number
-      some-plan = subst (0 <◌) (sym q) (says.some y)
-
-      pub grade_done : {g : ℕ} → g ≡ grade_of number (some_forced 64 opens) → grade_given g ≡ grade_unless code m opens
-      unfolding grade_by rota_grade
-      grade_done {g} eg =
-          let forced = forced_wide n m opens callouts able.passed.code able.passed.slots in
-          go (count m opens) (says.some y) ∙ ap (grade_by opens (count m opens)) (eg ∙ ap₂ grade_of q forced) ∙ graded
-        where
-          go : (k : ℕ) → 0 < k → grade_given g ≡ grade_by opens k g
-          go zero h = absurd (omega arith)
-          go (suc k) h = refl
+    pub graded : {g : ℕ} → g ≡ grade_of number (some_forced 64 opens) → {a : GradeAnswer} → a ≡ grade_given g → a ≡ grade_unless code m opens
+    unfolding grade_unless grade_by rota_grade
+    graded {g} eg w =
+        let forced = forced_wide n m opens callouts able.passed.code able.passed.slots in
+        w ∙ go (count m opens) ((says able.passed e).some z)
+        ∙ ap (grade_by opens (count m opens)) (eg ∙ ap₂ grade_of q forced) ∙ accepted-answer code able.none grade_refused _
+      where
+        go : (k : ℕ) → 0 < k → grade_given g ≡ grade_by opens k g
+        go zero h = absurd (omega arith)
+        go (suc k) h = refl

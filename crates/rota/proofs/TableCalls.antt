@@ -5,16 +5,18 @@ use mathlib.Core.List.{List, ◌++◌}
 use Prim.Native.Nat.{ℕ, ◌≤◌, ◌<◌}
 use native.Mathlib.Omega.{arith}
 use lib.ListN.{length, take, drop}
+use Rattle.std.specs.Prelude.{Ok, Err}
 use Rattle.model.specs.declared.Plan.{Plan}
 use Rattle.model.specs.Rota.{table_code}
 use Rattle.model.specs.CellPlans.{cell_plan}
 use Rattle.model.specs.Allowed.{allowed_words}
-use Rattle.model.specs.Refusal.{room_code}
+use Rattle.model.specs.declared.Refusal.{Refusal}
+use Rattle.model.specs.Refusal.{room_code, number, code_of}
 use Rattle.model.specs.PlanAnswers.{given, refused, first_from, first_answer, next_from, next_answer, fewest_from, fewest_answer, cell_answer}
 use Rattle.model.specs.UsableAnswers.{usable_code, usable_after}
 use Rattle.model.proofs.Accepted.{tables-from}
 use Rattle.model.proofs.Laws.{few}
-use Rattle.model.proofs.Refusals.{or_later, stops, room_enough, room-short, refused-answer, accepted-answer, nothing_written, all-written}
+use Rattle.model.proofs.Refusals.{or_later, stops, room_enough, room-short, code-refused, code_passed, accepted-answer, nothing_written, all-written}
 use Rattle.model.proofs.Slots.{first_wide, next_wide, fewest_wide, cell_wide, allowed_wide}
 use Rattle.components.specs.Component.{AllowedTable}
 use Rattle.components.proofs.AllowedTables.{allowed_front}
@@ -24,30 +26,11 @@ pub record Passed (n m : ℕ) (opens callouts : List ℕ) : Type 0 where
   pub code : table_code n m opens callouts ≡ 0
   pub slots : m ≤ 64
 
--- a call passes n for m
-module _ (n : ℕ) (opens callouts : List ℕ) (c : ℕ) (e : c ≡ table_code n n opens callouts) (z : c ≡ 0) where
-  pub few-slots : n ≤ 64
-  few-slots = (tables-from n n opens callouts (sym e ∙ z)).few-items
-
-  pub passes : Passed n n opens callouts
-  passes = record { code = sym e ∙ z; slots = few-slots }
-
-module _ (n m : ℕ) (opens callouts : List ℕ) (c : ℕ) (e : c ≡ table_code n m opens callouts) (d : c ≢ 0) where
-  pub first-refused : refused c ≡ first_answer n m opens callouts
-  unfolding first_answer
-  first-refused = refused-answer c _ d (sym e) refused _
-
-  pub next-refused : (g : Plan) → refused c ≡ next_answer n m opens callouts g
-  unfolding next_answer
-  next-refused g = refused-answer c _ d (sym e) refused _
-
-  pub fewest-refused : (cap : ℕ) → refused c ≡ fewest_answer n m opens callouts cap
-  unfolding fewest_answer
-  fewest-refused cap = refused-answer c _ d (sym e) refused _
-
-  pub cell-refused : (i j : ℕ) → refused c ≡ cell_answer n m opens callouts i j
-  unfolding cell_answer
-  cell-refused i j = refused-answer c _ d (sym e) refused _
+-- a call passes n for m: what its test says that let it go on
+pub passes : {n : ℕ} {opens callouts : List ℕ} {u : Unit {0}} → code_of (Ok u) ≡ table_code n n opens callouts → Passed n n opens callouts
+passes {n} {opens} {callouts} {u} e =
+    let code = code_passed u e in
+    record { code = code; slots = (tables-from n n opens callouts code).few-items }
 
 module _ {n m : ℕ} {opens callouts : List ℕ} (p : Passed n m opens callouts) where
   pub few-items : length opens ≤ 64
@@ -76,24 +59,28 @@ module _ {n m : ℕ} {opens callouts : List ℕ} (p : Passed n m opens callouts)
 
 -- the code and the words that are left
 abbrev Usable : ℕ → ℕ → List ℕ → List ℕ → List ℕ → ℕ → List ℕ → Type 0
-Usable n m opens callouts old c new = (c ≡ usable_code n m opens callouts (length old)) × (new ≡ usable_after n m opens callouts old)
+Usable n m opens callouts old c new = record {
+  code : c ≡ usable_code n m opens callouts (length old);
+  usable : new ≡ usable_after n m opens callouts old;
+}
 
 module _ (n m : ℕ) (opens callouts old : List ℕ) where
   refuses : (c : ℕ) → c ≢ 0 → c ≡ usable_code n m opens callouts (length old) → Usable n m opens callouts old c old
   unfolding usable_after
-  refuses c d q = (q, nothing_written c _ d (sym q) _ old)
+  refuses c d q = record { code = q; usable = nothing_written c _ d (sym q) _ old }
 
-  pub usable-refused : (c : ℕ) → c ≡ table_code n m opens callouts → c ≢ 0 → Usable n m opens callouts old c old
+  pub usable-refused : (r : Refusal) → code_of {A = Unit {0}} (Err r) ≡ table_code n m opens callouts → {c : ℕ} → c ≡ number r → Usable n m opens callouts old c old
   unfolding usable_code
-  usable-refused c e d = refuses c d (stops c _ _ e d)
+  usable-refused r e q = let d = code-refused (Unit {0}) r e in refuses _ (λ z. d.1 (sym q ∙ z)) (q ∙ stops (number r) _ _ d.0 d.1)
 
   module _ (p : Passed n m opens callouts) where
     by_room : usable_code n m opens callouts (length old) ≡ room_code (length old) n
     unfolding usable_code
     by_room = or_later _ _ p.code
 
-    pub usable-short : length old < n → Usable n m opens callouts old 15 old
-    usable-short h = refuses 15 (λ x. omega arith) (sym (by_room ∙ room-short (length old) n h))
+    pub usable-short : length old < n → {c : ℕ} → c ≡ number Refusal.OutputTooShort → Usable n m opens callouts old c old
+    unfolding number
+    usable-short h {c} q = refuses c (λ x. omega (arith, q)) (q ∙ sym (by_room ∙ room-short (length old) n h))
 
     front : {r : List ℕ} → AllowedTable opens r → take n r ≡ allowed_words m opens
     front {r} A =
@@ -105,4 +92,4 @@ module _ (n m : ℕ) (opens callouts old : List ℕ) where
     unfolding usable_after
     usable_done A h q =
         let s = by_room ∙ room_enough (length old) n h in
-        (sym s, q ∙ ap (λ v. v ++ drop (length v) old) (front A) ∙ all-written _ s (allowed_words m opens) old)
+        record { code = sym s; usable = q ∙ ap (λ v. v ++ drop (length v) old) (front A) ∙ all-written _ s (allowed_words m opens) old }

@@ -2,6 +2,8 @@
 ghost use Rattle.std.specs.Prelude.{◌≡◌, length};
 ghost use Rattle.model.specs.CountAnswers.{count_answer, count_tally};
 
+use acceptance::Tables;
+use answers::{Answer, FigureAnswer};
 use model::CountAnswer;
 
 // Counts the complete plans, in a tally of at least 2^n words.
@@ -9,10 +11,14 @@ pub fn rota_count_plans(n: usize, opens: &[u64], callouts: &[u64], tally: &mut [
     ensures answer { result ≡ count_answer n n opens.now callouts.now (length tally.old) }
     ensures tally { tally.new ≡ count_tally n n opens.now callouts.now tally.old }
 {
-    let code = acceptance::count_code(n, n, opens, callouts, tally.len());
-    if code != 0 {
-        return CountAnswer { code, count: 0 };
+    let tables = Tables {
+        n,
+        m: n,
+        opens,
+        callouts,
+    };
+    if let Err(refusal) = tables.counted(tally.len()) {
+        return CountAnswer::refused(refusal);
     }
-    let count = permanent::count_subsets(n, opens, tally);
-    CountAnswer { code: 0, count }
+    CountAnswer::given(permanent::count_subsets(n, opens, tally))
 }

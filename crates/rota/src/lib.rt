@@ -1,7 +1,9 @@
 // Every public call, once, under its C name (include/rota.h): called by Rattle programs as it is, and exported to C by crate rota_c. None
 // has a `requires`. Each answer, and each buffer lent, is one function of what the call got: the definitions are in model's specs.
+// Each body tests, refuses and runs its search: lines that say which tests these are, and no more of them with the search in a closure.
 #![tactic(auto)]
 
+mod before_count;
 pub mod counting;
 pub mod file_plans;
 pub mod files;

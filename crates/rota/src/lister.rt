@@ -1,4 +1,4 @@
-// The lister.
+// The lister. Its flag beside a plan is the C interface's.
 ghost use Rattle.std.specs.Prelude.{◌≡◌};
 ghost use Rattle.model.specs.Lister.{lister_answer, lister_after};
 ghost use Rattle.rota.specs.Step.{step_of};
@@ -18,10 +18,10 @@ fn answer(lister: Lister, n: usize, opens: &[u64], callouts: &[u64]) -> PlanAnsw
     ensures { result ≡ lister_answer lister n n opens.now callouts.now }
 {
     if lister.started {
-        let held = lister.plan;
-        return plans::rota_next_plan(n, opens, callouts, held);
+        plans::rota_next_plan(n, opens, callouts, lister.plan)
+    } else {
+        plans::rota_first_plan(n, opens, callouts)
     }
-    plans::rota_first_plan(n, opens, callouts)
 }
 
 // One step of a lister, by value.
@@ -29,15 +29,13 @@ pub fn step(lister: Lister, n: usize, opens: &[u64], callouts: &[u64]) -> Steppe
     ensures { result ≡ step_of lister n n opens.now callouts.now }
 {
     let a = answer(lister, n, opens, callouts);
-    let code = a.code;
-    if code != 0 {
+    if a.code != 0 {
         return Stepped { lister, answer: a };
     }
-    let p = a.plan;
     Stepped {
         lister: Lister {
             started: true,
-            plan: p,
+            plan: a.plan,
         },
         answer: a,
     }

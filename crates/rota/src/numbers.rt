@@ -2,7 +2,9 @@
 ghost use Rattle.std.specs.Prelude.{◌≡◌, length};
 ghost use Rattle.model.specs.NumberAnswers.{plan_at_answer, plan_at_tally, plan_number_answer, plan_number_tally};
 
-use model::{NumberAnswer, Plan, PlanAnswer};
+use acceptance::Tables;
+use answers::{Answer, FigureAnswer};
+use model::{NumberAnswer, Plan, PlanAnswer, Refusal};
 
 // The plan with k plans before it.
 pub fn rota_plan_at(
@@ -15,12 +17,17 @@ pub fn rota_plan_at(
     ensures answer { result ≡ plan_at_answer n n opens.now callouts.now k (length tally.old) }
     ensures tally { tally.new ≡ plan_at_tally n n opens.now callouts.now k tally.old }
 {
-    let code = acceptance::count_code(n, n, opens, callouts, tally.len());
-    if code != 0 {
-        return answers::refused(code);
+    let tables = Tables {
+        n,
+        m: n,
+        opens,
+        callouts,
+    };
+    if let Err(refusal) = tables.counted(tally.len()) {
+        return PlanAnswer::refused(refusal);
     }
     if ryser::count(opens) <= k {
-        return answers::refused(16);
+        return PlanAnswer::refused(Refusal::NoSuchPlan);
     }
     rank::tally_last(opens, tally);
     answers::given(rank::unrank(opens, tally, k), 0)
@@ -37,17 +44,18 @@ pub fn rota_plan_number(
     ensures answer { result ≡ plan_number_answer n n opens.now callouts.now given (length tally.old) }
     ensures tally { tally.new ≡ plan_number_tally n n opens.now callouts.now given tally.old }
 {
-    let code = acceptance::count_code(n, n, opens, callouts, tally.len());
-    if code != 0 {
-        return NumberAnswer { code, number: 0 };
+    let tables = Tables {
+        n,
+        m: n,
+        opens,
+        callouts,
+    };
+    if let Err(refusal) = tables.counted(tally.len()) {
+        return NumberAnswer::refused(refusal);
     }
-    let slots = given.slots;
-    if !plan::is_plan(opens, slots) {
-        return NumberAnswer { code: 8, number: 0 };
+    if !plan::is_plan(opens, given.slots) {
+        return NumberAnswer::refused(Refusal::NotAPlan);
     }
     rank::tally_last(opens, tally);
-    NumberAnswer {
-        code: 0,
-        number: rank::rank(opens, tally, slots),
-    }
+    NumberAnswer::given(rank::rank(opens, tally, given.slots))
 }

@@ -2,15 +2,22 @@
 ghost use Rattle.std.specs.Prelude.{◌≡◌};
 ghost use Rattle.model.specs.PlanAnswers.{first_answer, next_answer, fewest_answer, cell_answer};
 
+use acceptance::Tables;
+use answers::Answer;
 use model::{Plan, PlanAnswer};
 
 // The first plan of a rota of n items.
 pub fn rota_first_plan(n: usize, opens: &[u64], callouts: &[u64]) -> PlanAnswer
     ensures { result ≡ first_answer n n opens.now callouts.now }
 {
-    let code = acceptance::table_code(n, n, opens, callouts);
-    if code != 0 {
-        return answers::refused(code);
+    let tables = Tables {
+        n,
+        m: n,
+        opens,
+        callouts,
+    };
+    if let Err(refusal) = tables.accepted() {
+        return PlanAnswer::refused(refusal);
     }
     least::first_plan(opens)
 }
@@ -19,9 +26,14 @@ pub fn rota_first_plan(n: usize, opens: &[u64], callouts: &[u64]) -> PlanAnswer
 pub fn rota_next_plan(n: usize, opens: &[u64], callouts: &[u64], given: Plan) -> PlanAnswer
     ensures { result ≡ next_answer n n opens.now callouts.now given }
 {
-    let code = acceptance::table_code(n, n, opens, callouts);
-    if code != 0 {
-        return answers::refused(code);
+    let tables = Tables {
+        n,
+        m: n,
+        opens,
+        callouts,
+    };
+    if let Err(refusal) = tables.accepted() {
+        return PlanAnswer::refused(refusal);
     }
     next::next_plan(opens, given)
 }
@@ -30,9 +42,14 @@ pub fn rota_next_plan(n: usize, opens: &[u64], callouts: &[u64], given: Plan) ->
 pub fn rota_fewest_callouts(n: usize, opens: &[u64], callouts: &[u64], cap: u32) -> PlanAnswer
     ensures { result ≡ fewest_answer n n opens.now callouts.now cap }
 {
-    let code = acceptance::table_code(n, n, opens, callouts);
-    if code != 0 {
-        return answers::refused(code);
+    let tables = Tables {
+        n,
+        m: n,
+        opens,
+        callouts,
+    };
+    if let Err(refusal) = tables.accepted() {
+        return PlanAnswer::refused(refusal);
     }
     min_cost::fewest_plan(opens, callouts, cap)
 }
@@ -47,9 +64,14 @@ pub fn rota_cell_plan(
 ) -> PlanAnswer
     ensures { result ≡ cell_answer n n opens.now callouts.now item slot }
 {
-    let code = acceptance::table_code(n, n, opens, callouts);
-    if code != 0 {
-        return answers::refused(code);
+    let tables = Tables {
+        n,
+        m: n,
+        opens,
+        callouts,
+    };
+    if let Err(refusal) = tables.accepted() {
+        return PlanAnswer::refused(refusal);
     }
     cell::cell_plan(opens, item, slot)
 }

@@ -2,7 +2,8 @@
 ghost use Rattle.std.specs.Prelude.{◌≡◌, length};
 ghost use Rattle.model.specs.SheetAnswers.{sheet_code, sheet_after};
 
-use model::Plan;
+use acceptance::Tables;
+use model::{Plan, Refusal};
 
 // Writes the sheet of the given plan into a lent page. The plan is tested before a byte is written, so a refusal leaves the page as it was.
 pub fn rota_plan_sheet(
@@ -15,18 +16,22 @@ pub fn rota_plan_sheet(
     ensures code { result ≡ sheet_code n n opens.now callouts.now given (length page.old) }
     ensures page { page.new ≡ sheet_after n n opens.now callouts.now given page.old }
 {
-    let code = acceptance::table_code(n, n, opens, callouts);
-    if code != 0 {
-        return code;
+    let tables = Tables {
+        n,
+        m: n,
+        opens,
+        callouts,
+    };
+    if let Err(refusal) = tables.accepted() {
+        return refusal.number();
     }
     let size = (n + 1) * 32;
     if page.len() < size {
-        return 15;
+        return Refusal::OutputTooShort.number();
     }
-    let slots = given.slots;
-    if !plan::is_plan(opens, slots) {
-        return 8;
+    if !plan::is_plan(opens, given.slots) {
+        return Refusal::NotAPlan.number();
     }
-    sheet::write_sheet(callouts, slots, &mut page[0..size]);
+    sheet::write_sheet(callouts, given.slots, &mut page[..size]);
     0
 }

@@ -27,6 +27,11 @@ bytes_packed (b ∷ l) s =
     let high : (b + 256 * packed l) / 256 ≡ packed l = omega (arith, s.0) in
     ap₂ ◌∷◌ low (ap (bytes (length l)) high ∙ bytes_packed l s.1)
 
+-- of eight bytes the four low ones
+pub small_four : (x : ℕ) → Small (bytes 8 x) → Small (bytes 4 x)
+unfolding bytes
+small_four x s = (s.0, (s.1.0, (s.1.1.0, (s.1.1.1.0, tt))))
+
 -- ---- no byte is 0
 
 -- c in each of k bytes

@@ -40,22 +40,9 @@ laned x y s =
 
 -- ---- twenty bytes
 
--- the factors of `term`: thirteen fit a word, seven half of one
-pub record Fitting (a b c d p q r s : ℕ) : Type 0 where
-  pub qr : q * r ≤ 400
-  pub qrs : q * r * s ≤ 8000
-  pub ab : a * b ≤ 25600000000
-  pub cp : c * p ≤ 3200000
-  pub thirteen : a * b * (c * p) ≤ 81920000000000000
-  pub seven : d * (q * r * s) ≤ 1280000000
-
-pub fitting : {a b c d p q r s : ℕ} → a ≤ 160000 → b ≤ 160000 → c ≤ 160000 → d ≤ 160000 → Small (p ∷ q ∷ r ∷ s ∷ []) → Fitting a b c d p q r s
-fitting ha hb hc hd h =
-    let qr = mul-le-mul h.1.0 h.1.1.0 in
-    let qrs = mul-le-mul qr h.1.1.1.0 in
-    let ab = mul-le-mul ha hb in
-    let cp = mul-le-mul hc h.0 in
-    record { qr = qr; qrs = qrs; ab = ab; cp = cp; thirteen = mul-le-mul ab cp; seven = mul-le-mul hd qrs }
+-- thirteen of the factors of `term` fit a word
+pub thirteen : {a b c p q r s : ℕ} → a ≤ 160000 → b ≤ 160000 → c ≤ 160000 → Small (p ∷ q ∷ r ∷ s ∷ []) → a * b * (c * p) ≤ 81920000000000000
+thirteen ha hb hc h = mul-le-mul (mul-le-mul ha hb) (mul-le-mul hc h.0)
 
 -- the factors in the order of the words' bytes
 by_words : (a b c d i j k l q r : ℕ) → a * i * (b * j) * (c * k * q) * (d * l * r) ≡ a * b * (c * d) * (i * j * (k * l)) * (q * r)
@@ -87,11 +74,3 @@ all-bytes x y z ea eb ec ed =
     ap₂ ◌*◌
     (ap₂ ◌*◌ (ap₂ ◌*◌ (ea ∙ swap _ _ _ _) (eb ∙ swap _ _ _ _)) (ap (◌* (z % 256)) (ec ∙ swap _ _ _ _))) (ap (◌* last) (ed ∙ swap _ _ _ _))
     ∙ by_words _ _ _ _ _ _ _ _ _ _ ∙ ap₂ ◌*◌ (ap₂ ◌*◌ (by_two _ _ _ _ _ _ _ _) (by_four _ _ _ _ _ _ _ _)) (in_a_row _ _ _ _)
-
--- ---- modulo 2 to the power 64
-
-halves_apart : (k p c : ℕ) → p * c ≡ p / k * c * k + p % k * c
-halves_apart k p c = ap (◌* c) (sym (div-add-mod' p k)) ∙ omega arith
-
-pub times_is : (p c : ℕ) → (p % 4294967296 * c + p / 4294967296 * c * 2 ^ 32 % 2 ^ 64) % 2 ^ 64 ≡ p * c % 2 ^ 64
-times_is p c = omega (arith, halves_apart 4294967296 p c)

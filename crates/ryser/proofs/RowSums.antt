@@ -12,7 +12,8 @@ use Rattle.words.proofs.Sums.{length-up_from}
 use Rattle.words.proofs.OneMore.{ones-and_single}
 use Rattle.model.specs.Ryser.{set_product}
 use Rattle.ryser.specs.Bytes.{packed, bytes, multiplied, Small}
-use Rattle.ryser.specs.RowSums.{row_sum, row_sums, column}
+use Rattle.ryser.specs.declared.Sums.{Sums}
+use Rattle.ryser.specs.RowSums.{row_sum, row_sums, column, sums_of, column_of, less, Within}
 use Rattle.ryser.proofs.Bytes.{packed-add, packed_lt, bytes_packed}
 
 -- a row's sum, and beyond the items
@@ -26,6 +27,11 @@ module _ (opens : List ℕ) (set i : ℕ) where
   row_sum_beyond h = ap (λ b. cond b (ones (bit_and (get_or opens i 0) set)) 1) (le-ltb i (length opens) h)
 
 -- ---- a slot less
+
+-- word by word
+record_eq : {a b c x y z : ℕ} → a ≡ x → b ≡ y → c ≡ z
+    → ◌≡◌ {A = Sums} (record { first = a; second = b; third = c }) (record { first = x; second = y; third = z })
+record_eq p q r = rw (p, q, r) refl
 
 module _ (opens : List ℕ) (set j : ℕ) (e : bit set j ≡ 1) where
   pub row_sum-less : (i : ℕ) → row_sum opens set i ≡ row_sum opens (without set j) i + bit (get_or opens i 0) j
@@ -47,10 +53,28 @@ module _ (opens : List ℕ) (set j : ℕ) (e : bit set j ≡ 1) where
       ap (λ f. packed (map f (up_from (8 * k) 8))) (fun_ext row_sum-less)
       ∙ packed-add (row_sum opens (without set j)) (λ i. bit (get_or opens i 0) j) (up_from (8 * k) 8)
 
-pub sums_single : (opens : List ℕ) (j k : ℕ) → row_sums opens (2 ^ j) k ≡ row_sums opens 0 k + column opens j k
+sums_single : (opens : List ℕ) (j k : ℕ) → row_sums opens (2 ^ j) k ≡ row_sums opens 0 k + column opens j k
 sums_single opens j k =
     let none : without (2 ^ j) j ≡ 0 = omega (arith, without-add (2 ^ j) j (bit_single j)) in
     sums_less opens (2 ^ j) j (bit_single j) k ∙ ap (λ s. row_sums opens s k + column opens j k) none
+
+-- the same of the three words
+pub column_within : (opens : List ℕ) (set j : ℕ) → bit set j ≡ 1 → Within (column_of opens j) (sums_of opens set)
+column_within opens set j e =
+    let of = sums_less opens set j e in
+    (omega (arith, of 0), omega (arith, of 1), omega (arith, of 2))
+
+pub sums_rest : (opens : List ℕ) (set j : ℕ) → bit set j ≡ 1 → less (sums_of opens set) (column_of opens j) ≡ sums_of opens (without set j)
+sums_rest opens set j e =
+    let of = sums_less opens set j e in
+    record_eq (omega (arith, of 0)) (omega (arith, of 1)) (omega (arith, of 2))
+
+pub column_alone : (opens : List ℕ) (j : ℕ)
+    → Within (sums_of opens 0) (sums_of opens (2 ^ j)) × (less (sums_of opens (2 ^ j)) (sums_of opens 0) ≡ column_of opens j)
+column_alone opens j = (
+  (omega (arith, sums_single opens j 0), omega (arith, sums_single opens j 1), omega (arith, sums_single opens j 2)),
+  record_eq (omega (arith, sums_single opens j 0)) (omega (arith, sums_single opens j 1)) (omega (arith, sums_single opens j 2)),
+)
 
 -- ---- none is above 20
 

@@ -5,16 +5,17 @@
 ghost use Rattle.std.specs.Prelude.{◌≡◌, ◌+◌, ◌*◌, ◌%◌, ◌^◌, ◌<◌, ◌≤◌, not, length};
 ghost use Rattle.model.specs.Count.{count};
 ghost use Rattle.ryser.specs.Bytes.{bytes, multiplied, quad, some_zero, Small, SmallQuad};
-ghost use Rattle.ryser.specs.RowSums.{row_sum, row_sums, column, Underway, SignedSum};
+ghost use Rattle.ryser.specs.RowSums.{row_sum, row_sums, sums_of, column_of, less, full, Within, SmallSums, Underway, SignedSum};
 
 // How many slots of the set are open to item i; beyond the items 1, which no product sees.
+#[tactic(auto, unfolding(crate::specs::RowSums::row_sum))]
 fn row_sum(opens: &[u64], set: u64, i: usize) -> u64
     ensures { result ≡ row_sum opens.now set i }
 {
-    if opens.len() <= i {
-        return 1;
+    match opens.get(i) {
+        Some(open) => words::size(open & set) as u64,
+        None => 1,
     }
-    words::size(opens[i] & set) as u64
 }
 
 // The sums of items 8k to 8k + 7, a byte each.
@@ -23,20 +24,10 @@ fn row_sums(opens: &[u64], set: u64, k: usize) -> u64
     ensures { result ≡ row_sums opens.now set k }
 {
     let mut x: u64 = 0;
-    let mut i: usize = 8;
-    while 0 < i {
-        i -= 1;
+    for i in (0..8).rev() {
         x = x * 256 + row_sum(opens, set, 8 * k + i);
     }
     x
-}
-
-// What slot j adds to the sums of items 8k to 8k + 7.
-fn column(opens: &[u64], j: usize, k: usize) -> u64
-    requires { (j < 20) × (k < 3) }
-    ensures { result ≡ column opens.now j k }
-{
-    row_sums(opens, words::single(j), k) - row_sums(opens, 0, k)
 }
 
 // Whether none of a word's bytes is 0. A byte from 1 on makes its top bit with 127 added; no byte carries into the next.
@@ -57,67 +48,101 @@ fn quad(x: u64, y: u64) -> u64
     (p % 65536) * (p / 281474976710656)
 }
 
-// p times c, modulo 2 to the power 64.
-fn times(p: u64, c: u64) -> u64
-    requires { c < 2 ^ 32 }
-    ensures { result ≡ p * c % 2 ^ 64 }
-{
-    let low = p % 4294967296 * c;
-    let high = p / 4294967296 * c;
-    std::num::wrapping_add_u64(low, high << 32)
+// The sums of the rows for a set of slots: of items 0 to 7, 8 to 15 and 16 to 23.
+#[derive(Clone, Copy)]
+struct Sums {
+    first: u64,
+    second: u64,
+    third: u64,
 }
 
-// A set's term, modulo 2 to the power 64, of twenty sums: thirteen factors are below it, seven more make the last product.
-fn term(x: u64, y: u64, z: u64) -> u64
-    requires { Small (bytes 8 x) × Small (bytes 8 y) × Small (bytes 4 z) }
-    ensures { result ≡ multiplied (bytes 8 x) * multiplied (bytes 8 y) * multiplied (bytes 4 z) % 2 ^ 64 }
-{
-    let a = quad(x, y);
-    let b = quad(x / 256, y / 256);
-    let c = quad(x / 256 / 256 / 256 / 256, y / 256 / 256);
-    let d = quad(x / 256 / 256 / 256 / 256 / 256, y / 256 / 256 / 256);
-    let e = (z / 256 % 256) * (z / 256 / 256 % 256) * (z / 256 / 256 / 256 % 256);
-    times(a * b * (c * (z % 256)), d * e)
+impl Sums {
+    // Those of a set.
+    fn of(opens: &[u64], set: u64) -> Sums
+        requires { set < 2 ^ 20 }
+        ensures { result ≡ sums_of opens.now set }
+    {
+        Sums {
+            first: row_sums(opens, set, 0),
+            second: row_sums(opens, set, 1),
+            third: row_sums(opens, set, 2),
+        }
+    }
+
+    // What slot j adds to them.
+    fn column(opens: &[u64], j: usize) -> Sums
+        requires { j < 20 }
+        ensures { result ≡ column_of opens.now j }
+    {
+        Sums::of(opens, words::single(j)).minus(Sums::of(opens, 0))
+    }
+
+    // The sums less what a slot adds to them.
+    fn minus(self, column: Sums) -> Sums
+        requires { Within column self }
+        ensures { result ≡ less self column }
+    {
+        Sums {
+            first: self.first - column.first,
+            second: self.second - column.second,
+            third: self.third - column.third,
+        }
+    }
+
+    // Whether no sum is 0.
+    fn full(self) -> bool
+        requires { SmallSums self }
+        ensures { result ≡ full self }
+    {
+        full(self.first) & full(self.second) & full(self.third)
+    }
+
+    // The set's term, modulo 2 to the power 64, of twenty sums: thirteen factors are below it, seven more make the last product.
+    fn term(self) -> u64
+        requires { SmallSums self }
+        ensures { result ≡ multiplied (bytes 8 self.first) * multiplied (bytes 8 self.second) * multiplied (bytes 4 self.third) % 2 ^ 64 }
+    {
+        let x = self.first;
+        let y = self.second;
+        let z = self.third;
+        let a = quad(x, y);
+        let b = quad(x / 256, y / 256);
+        let c = quad(x / 256 / 256 / 256 / 256, y / 256 / 256);
+        let d = quad(x / 256 / 256 / 256 / 256 / 256, y / 256 / 256 / 256);
+        let e = (z / 256 % 256) * (z / 256 / 256 % 256) * (z / 256 / 256 / 256 % 256);
+        (a * b * (c * (z % 256))).wrapping_mul(d * e)
+    }
 }
 
 // The signed sum over a set, whose rows' sums these are, and all that lack slots below j besides. First the set's own term; then, for each k,
 // those that lack slot k and perhaps slots below it. Where a row's sum is 0 it stays 0, and so does every term: that branch is cut.
-fn signed_sum(columns: &[u64; 64], j: usize, x: u64, y: u64, z: u64) -> u64
-    requires { Underway columns.now j x y z }
-    ensures { SignedSum columns.now j x y z result }
+fn signed_sum(columns: &[Sums; 20], j: usize, sums: Sums) -> u64
+    requires { Underway columns.now j sums }
+    ensures { SignedSum columns.now j sums result }
 {
-    let mut sum = term(x, y, z);
-    let mut k = 0;
-    while k < j {
-        let a = x - columns[3 * k];
-        let b = y - columns[3 * k + 1];
-        let c = z - columns[3 * k + 2];
-        if full(a) & full(b) & full(c) {
-            sum = std::num::wrapping_sub_u64(sum, signed_sum(columns, k, a, b, c));
+    let mut sum = sums.term();
+    for k in 0..j {
+        let rest = sums.minus(columns[k]);
+        if rest.full() {
+            sum = sum.wrapping_sub(signed_sum(columns, k, rest));
         }
-        k += 1;
     }
     sum
 }
 
-// The number of complete plans of as many slots as items.
+// The number of complete plans of as many slots as items. The columns are a fixed table (no heap).
 pub fn count(opens: &[u64]) -> u64
     requires { length opens.now ≤ 20 }
     ensures { result ≡ count (length opens.now) opens.now }
 {
     let n = opens.len();
-    let mut columns = [0u64; 64];
-    let mut t = 0;
-    while t < 3 * n {
-        columns[t] = column(opens, t / 3, t % 3);
-        t += 1;
+    let mut columns = [Sums {
+        first: 0,
+        second: 0,
+        third: 0,
+    }; 20];
+    for j in 0..n {
+        columns[j] = Sums::column(opens, j);
     }
-    let set = words::low(n);
-    signed_sum(
-        &columns,
-        n,
-        row_sums(opens, set, 0),
-        row_sums(opens, set, 1),
-        row_sums(opens, set, 2),
-    )
+    signed_sum(&columns, n, Sums::of(opens, words::low(n)))
 }

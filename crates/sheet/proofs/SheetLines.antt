@@ -49,7 +49,7 @@ pairs_at (suc x) a (suc n) h few =
     let q : a + suc x ≡ suc a + x = omega arith in
     rw (r, p, q, aligned_is a (omega arith)) (pairs_at x (suc a) n (omega arith) (omega arith))
 
-number_at : (x : ℕ) → x < 64 → two (2 * x) numbers ≡ aligned x
+pub number_at : (x : ℕ) → x < 64 → two (2 * x) numbers ≡ aligned x
 unfolding numbers below
 number_at x h = let q : 0 + x ≡ x = omega arith in rw q at (pairs_at x 0 64 h (omega arith))
 
@@ -78,14 +78,13 @@ module _ {n : ℕ} {callouts slots : List ℕ} (page : List ℕ) where
 module _ {n : ℕ} {callouts slots page : List ℕ} {i : ℕ} (w : LinesWritten n callouts slots page i) where
   -- the line of an item's number, slot and mark
   item-line : {slot mark : ℕ} → i < n → slot ≡ get_or slots i 0 → mark ≡ cond (has (get_or callouts i 0) slot) 67 32
-      → line (two (2 * i) numbers) (two (2 * slot) numbers) mark ≡ item_line callouts slots i
+      → line (aligned i) (aligned slot) mark ≡ item_line callouts slots i
   unfolding item_line mark_of
   item-line {slot} {mark} h e m =
-      ap₂ (λ a b. line a b mark) (number_at i (omega (arith, w.fits.items))) (number_at slot (omega (arith, e, w.fits.slots i h)))
-      ∙ ap₂ (λ j c. line (aligned i) (aligned j) c) e (m ∙ ap (λ j. cond (has (get_or callouts i 0) j) 67 32) e)
+      ap₂ (λ j c. line (aligned i) (aligned j) c) e (m ∙ ap (λ j. cond (has (get_or callouts i 0) j) 67 32) e)
 
   pub lines_more : i < n → {y : List ℕ} {slot mark : ℕ} → slot ≡ get_or slots i 0 → mark ≡ cond (has (get_or callouts i 0) slot) 67 32
-      → y ≡ line (two (2 * i) numbers) (two (2 * slot) numbers) mark
+      → y ≡ line (aligned i) (aligned slot) mark
       → LinesWritten n callouts slots (put (32 * (i + 1)) (32 * (i + 1) + 32 - 32 * (i + 1)) page y) (i + 1)
   lines_more h {y} s m q =
       let e : y ≡ item_line callouts slots i = q ∙ item-line h s m in

@@ -1,2 +1,3 @@
 pub mod Word
 pub mod Sum
+pub mod Walk

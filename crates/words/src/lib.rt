@@ -3,9 +3,12 @@
 
 ghost use Rattle.std.specs.Prelude.{◌≡◌, ◌≢◌, ◌++◌, ◌^◌, ◌≤◌, ◌<◌, length, drop};
 ghost use Rattle.std.specs.Int.Count.{ones};
+ghost use Rattle.std.specs.Iterator.{at_most};
 ghost use Rattle.words.specs.Word.{bit, has, with, without, low, lowest, minus, select};
+ghost use Rattle.words.specs.Walk.{TakesLowest};
 
 // Whether slot j is in w.
+#[tactic(auto, unfolding(crate::specs::Word::has, crate::specs::Word::bit))]
 pub fn has(w: u64, j: usize) -> bool
     requires { j < 64 }
     ensures { result ≡ has w j }
@@ -14,6 +17,7 @@ pub fn has(w: u64, j: usize) -> bool
 }
 
 // 1 if slot j is in w, else 0.
+#[tactic(auto, unfolding(crate::specs::Word::bit))]
 pub fn bit(w: u64, j: usize) -> usize
     requires { j < 64 }
     ensures { result ≡ bit w j }
@@ -46,6 +50,7 @@ pub fn without(w: u64, j: usize) -> u64
 }
 
 // The slots of a that are not in b.
+#[tactic(auto, unfolding(crate::specs::Word::minus))]
 pub fn minus(a: u64, b: u64) -> u64
     ensures { result ≡ minus a b }
 {
@@ -53,6 +58,7 @@ pub fn minus(a: u64, b: u64) -> u64
 }
 
 // The slots of a outside b, and those of c in b.
+#[tactic(auto, unfolding(crate::specs::Word::select))]
 pub fn select(a: u64, b: u64, c: u64) -> u64
     ensures { result ≡ select a b c }
 {
@@ -60,21 +66,23 @@ pub fn select(a: u64, b: u64, c: u64) -> u64
 }
 
 // The n low slots; for n = 64 all of them, with no shift by 64.
+#[tactic(auto, unfolding(crate::specs::Word::low))]
 pub fn low(n: usize) -> u64
     requires { n ≤ 64 }
     ensures { result ≡ low n }
 {
     if n == 64 {
-        return 0xffff_ffff_ffff_ffff;
+        return u64::MAX;
     }
     (1u64 << n) - 1
 }
 
-// The lowest slot of w, by its trailing zeros; 64 where w is empty.
+// The lowest slot of w, by its trailing zeros; 64 where w is empty, and no Option: that is the count which document 01 names.
+#[tactic(auto, unfolding(crate::specs::Word::lowest))]
 pub fn lowest(w: u64) -> usize
     ensures { result ≡ lowest w }
 {
-    u64::trailing_zeros(w) as usize
+    w.trailing_zeros() as usize
 }
 
 // w without its lowest slot.
@@ -85,18 +93,32 @@ pub fn without_lowest(w: u64) -> u64
     w & (w - 1)
 }
 
+// The slots of a word, the lowest first: the word has those that are still to come.
+#[derive(Clone, Copy)]
+pub struct Slots(pub u64);
+
+impl Iterator for Slots {
+    type Item = usize;
+
+    ghost next_gives = { TakesLowest };
+
+    ghost remaining = { λ s. at_most s.0 };
+
+    fn next(&mut self) -> Option<usize> {
+        if self.0 == 0 {
+            return None;
+        }
+        let k = lowest(self.0);
+        self.0 = without_lowest(self.0);
+        Some(k)
+    }
+}
+
 // How many slots w has, by counting its ones.
 pub fn size(w: u64) -> usize
     ensures { result ≡ ones w }
 {
-    u64::count_ones(w) as usize
-}
-
-// A byte as an index.
-pub fn wide(x: u8) -> usize
-    ensures { result ≡ x }
-{
-    x as usize
+    w.count_ones() as usize
 }
 
 // Copies words over the front of a lent table. The callers have tested that it is long enough.
@@ -104,9 +126,5 @@ pub fn store(words: &[u64], table: &mut [u64])
     requires { length words.now ≤ length table.old }
     ensures { table.new ≡ words.now ++ drop (length words.now) table.old }
 {
-    let mut i = 0;
-    while i < words.len() {
-        table[i] = words[i];
-        i += 1;
-    }
+    table[..words.len()].copy_from_slice(words);
 }

@@ -7,40 +7,45 @@ use Rattle.components.proofs.+grow.Goals as goal
 pub returns-then-next-path-ne0 : goal.returns-then-next-path-ne0
 returns-then-next-path-ne0 t c = grow_back c.loop-next.invariant c.if-next-path-ne0.true
 
-pub holder-y-requires : goal.holder-y-requires
-holder-y-requires t c =
+pub holder-requires : goal.holder-requires
+holder-requires t c =
     let next = step c.loop-next.invariant c.loop-next-test.true c.if-next-path-ne0.false c.lowest-k.ensures in
-    (c.requires.0.complete.table.owners, next.below)
+    next.below
 
 pub single-requires : goal.single-requires
 single-requires t c = (step c.loop-next.invariant c.loop-next-test.true c.if-next-path-ne0.false c.lowest-k.ensures).below
 
-pub bounds-opens-y : goal.bounds-opens-y
-bounds-opens-y t c =
+pub offset_bounds-opens-holder : goal.offset_bounds-opens-holder
+offset_bounds-opens-holder t c =
     let next = step c.loop-next.invariant c.loop-next-test.true c.if-next-path-ne0.false c.lowest-k.ensures in
-    rw c.holder-y.ensures (c.requires.0.complete.table.item _ next.below next.held)
+    let T = c.requires.0.complete.table in
+    omega (arith, T.item _ next.below next.held, T.few, c.holder.ensures)
+
+pub bounds-opens-holder : goal.bounds-opens-holder
+bounds-opens-holder t c =
+    let next = step c.loop-next.invariant c.loop-next-test.true c.if-next-path-ne0.false c.lowest-k.ensures in
+    rw c.holder.ensures (c.requires.0.complete.table.item _ next.below next.held)
 
 pub grow-r-requires : goal.grow-r-requires
 grow-r-requires t c =
     let next = step c.loop-next.invariant c.loop-next-test.true c.if-next-path-ne0.false c.lowest-k.ensures in
-    rw (c.single.ensures, c.holder-y.ensures) (omega (arith, c.decreases, next.fewer), (c.requires.0, next.growing))
+    rw (c.single.ensures, c.holder.ensures) (omega (arith, c.decreases, next.fewer), (c.requires.0, next.growing))
 
 pub loop-next-smaller : goal.loop-next-smaller
 loop-next-smaller t c =
     let next = step c.loop-next.invariant c.loop-next-test.true c.if-next-path-ne0.false c.lowest-k.ensures in
-    next.less (rw (c.single.ensures, c.holder-y.ensures) at c.grow-r.ensures)
+    next.less (rw (c.single.ensures, c.holder.ensures) at c.grow-r.ensures)
 
 pub loop-next-preserved : goal.loop-next-preserved
 loop-next-preserved t c =
     let next = step c.loop-next.invariant c.loop-next-test.true c.if-next-path-ne0.false c.lowest-k.ensures in
-    next.again (rw (c.single.ensures, c.holder-y.ensures) at c.grow-r.ensures) (search rules) (search rules) c.minus-next-in-loop-next.ensures
+    next.again (rw (c.single.ensures, c.holder.ensures) at c.grow-r.ensures) (search rules) (search rules) c.minus-next-in-loop-next.ensures
 
 pub mark-requires : goal.mark-requires
 mark-requires t c =
-    let turns = c.loop-next.invariant in
-    rw c.minus.ensures (finish_owners c.requires.0 turns c.ranges.free.fits c.loop-next-test.false, turns.growing.finished.sized)
+    rw c.minus.ensures (finish_owners c.requires.0 c.loop-next.invariant (search rules) c.loop-next-test.false)
 
 pub returns : goal.returns
 returns t c =
     rw c.minus-2.ensures
-    (finish c.requires.0 c.loop-next.invariant c.ranges.free.fits c.loop-next-test.false (rw c.minus.ensures at c.mark.ensures))
+    (finish c.requires.0 c.loop-next.invariant (search rules) c.loop-next-test.false (rw c.minus.ensures at c.mark.ensures))

@@ -3,10 +3,11 @@ use Rattle.components.proofs.Grows.{unseen, GrowthTurns}
 use Rattle.components.proofs.+grow.Given as goal
 
 abbrev pub decreases-grow : goal.decreases-grow
-decreases-grow l = unseen l.rest l.path l.set
+decreases-grow l = unseen l.start.rest l.path l.start.set
 
 abbrev pub invariant-loop-next : goal.invariant-loop-next
-invariant-loop-next l = GrowthTurns l.opens l.owner l.free l.rest l.path l.set l.out l.allowed l.left l.all l.reach l.next
+invariant-loop-next l =
+    GrowthTurns l.opens l.m.owner l.m.free l.fn.start.rest l.path l.fn.start.set l.fn.start.out l.allowed l.part.rest l.part.set l.part.out l.next
 
 abbrev pub decreases-loop-next : goal.decreases-loop-next
-decreases-loop-next l = unseen l.left l.path l.all
+decreases-loop-next l = unseen l.part.rest l.path l.part.set

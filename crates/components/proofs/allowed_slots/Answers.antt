@@ -4,13 +4,13 @@ use Rattle.maximum.proofs.Deficient.{exposed_no_plan, none-exposed-complete}
 use Rattle.components.proofs.Finishes.{none_allowed}
 use Rattle.components.proofs.allowed_slots.Goals as goal
 
-pub fill-m-requires : goal.fill-m-requires
-fill-m-requires c =
-    rw c.low.ensures (all-fillable _ c.requires (λ x h. (c.type_inv.opens x).fits) _ c.low-2.ensures)
+pub fill-left-requires : goal.fill-left-requires
+fill-left-requires c =
+    rw c.empty-m.ensures (all-fillable _ c.requires (λ x h. (c.type_inv.opens x).fits) _ c.low.ensures)
 
-pub returns-then-m-ne0 : goal.returns-then-m-ne0
-returns-then-m-ne0 c =
-    none_allowed c.requires (λ x h. (c.type_inv.opens x).fits) (exposed_no_plan _ _ _ _ _ _ c.fill-m.ensures c.if-m-ne0.true)
+pub returns-then-left-ne0 : goal.returns-then-left-ne0
+returns-then-left-ne0 c =
+    none_allowed c.requires (λ x h. (c.type_inv.opens x).fits) (exposed_no_plan _ _ _ _ _ _ c.fill-left.ensures c.if-left-ne0.true)
 
 pub allowed_words-requires : goal.allowed_words-requires
-allowed_words-requires c = record { slot = _; complete = none-exposed-complete _ _ _ _ _ _ c.fill-m.ensures c.if-m-ne0.false }
+allowed_words-requires c = record { slot = _; complete = none-exposed-complete _ _ _ _ _ _ c.fill-left.ensures c.if-left-ne0.false }

@@ -1,74 +1,61 @@
--- The tests of `rota_in` are the definition's, in their order.
-use Rattle.std.proofs.Common.{◌≡◌, ◌∙◌, refl, sym, ℕ, List, true, get_or, arith}
-use Rattle.std.proofs.Math.Seq.{length-take-le}
-use Rattle.model.specs.declared.Edition.{Edition}
-use Rattle.model.specs.File.{blocks_in, items_in, slots_in, laid_out}
+-- The file's refusal, that of its words, or its rota.
+use Rattle.std.proofs.Common.{◌∙◌, sym, arith}
+use Rattle.std.proofs.lemmas.Result.{err_from_is_err_and}
+use Rattle.model.specs.Refusal.{or_else, code_of}
 use Rattle.model.proofs.Editions.{slots-few}
-use Rattle.file_reading.proofs.Inside.{Room, room_for, front_enough, refuses_layout, refuses-cells, holds_rota}
+use Rattle.model.proofs.Refusals.{or-first, numbered}
+use Rattle.file_reading.proofs.Inside.{room_for, cells_are, is_rota}
 use Rattle.file_reading.proofs.rota_in.Goals as goal
 
--- n items have room in the file, and in the arrays
-room : (e : Edition) (file : List ℕ) {n : ℕ} → n ≡ get_or file 5 0 → laid_out e (items_in file) (slots_in e file) (blocks_in file) ≡ true → Room file n
-unfolding items_in
-room e file items laid = room_for _ file _ items laid
-
-pub returns-then-layout-ne0 : goal.returns-then-layout-ne0
-returns-then-layout-ne0 c = c.no_rota.ensures ∙ refuses_layout _ _ _ c.layout_code-layout.ensures.code c.if-layout-ne0.true
-
-pub bounds-file-5 : goal.bounds-file-5
-bounds-file-5 c =
-    let laid = c.layout_code-layout.ensures.laid c.if-layout-ne0.false in
-    omega (arith, room c.args.edition c.args.file.now {n = get_or c.args.file.now 5 0} refl laid)
+pub returns-in_err-n-clause-code : goal.returns-in_err-n-clause-code
+unfolding code_of
+returns-in_err-n-clause-code c =
+    let p = err_from_is_err_and c.from_residual.result c.from_residual.ensures.1 in
+    rw (p.1, p.2) (sym (or-first _ _ (λ z. omega (arith, numbered c.in_err-n.field-0.0, z))) ∙ c.in_err-n.ensures.code)
 
 pub slots_in-requires : goal.slots_in-requires
-slots_in-requires c =
-    let r = room c.args.edition c.args.file.now c.wide-n.ensures (c.layout_code-layout.ensures.laid c.if-layout-ne0.false) in
-    omega (arith, r.some)
+slots_in-requires c = let r = room_for c.args.edition c.args.file.now c.in_ok-n.ensures.laid in omega (arith, r.some)
 
-pub words_in-opens-requires : goal.words_in-opens-requires
-words_in-opens-requires c =
-    let r = room c.args.edition c.args.file.now c.wide-n.ensures (c.layout_code-layout.ensures.laid c.if-layout-ne0.false) in
+pub words_in-requires : goal.words_in-requires
+words_in-requires c =
+    let r = room_for c.args.edition c.args.file.now c.in_ok-n.ensures.laid in
     (omega arith, r.few, r.enough)
 
-pub words_in-callouts-requires : goal.words_in-callouts-requires
-words_in-callouts-requires c =
-    let r = room c.args.edition c.args.file.now c.wide-n.ensures (c.layout_code-layout.ensures.laid c.if-layout-ne0.false) in
+pub words_in-requires-2 : goal.words_in-requires-2
+words_in-requires-2 c =
+    let r = room_for c.args.edition c.args.file.now c.in_ok-n.ensures.laid in
     (omega arith, r.few, r.enough)
 
-pub slice_bounds-opens-end : goal.slice_bounds-opens-end
-slice_bounds-opens-end c =
-    let r = room c.args.edition c.args.file.now c.wide-n.ensures (c.layout_code-layout.ensures.laid c.if-layout-ne0.false) in
-    front_enough _ r c.words_in-opens.ensures
+pub invariant_of-rota : goal.invariant_of-rota
+invariant_of-rota c = record { few = (room_for c.args.edition c.args.file.now c.in_ok-n.ensures.laid).few }
 
-pub slice_bounds-cell_code-end : goal.slice_bounds-cell_code-end
-slice_bounds-cell_code-end c =
-    let r = room c.args.edition c.args.file.now c.wide-n.ensures (c.layout_code-layout.ensures.laid c.if-layout-ne0.false) in
-    sym (length-take-le _ _ (front_enough _ r c.words_in-opens.ensures))
+pub cells-requires-clause-m_bound : goal.cells-requires-clause-m_bound
+cells-requires-clause-m_bound c =
+    let r = room_for c.args.edition c.args.file.now c.in_ok-n.ensures.laid in
+    omega (arith, c.from-m.ensures, c.slots_in.ensures, slots-few c.args.edition c.args.file.now r.items r.few)
 
-pub slice_bounds-callouts-end : goal.slice_bounds-callouts-end
-slice_bounds-callouts-end c =
-    let r = room c.args.edition c.args.file.now c.wide-n.ensures (c.layout_code-layout.ensures.laid c.if-layout-ne0.false) in
-    front_enough _ r c.words_in-callouts.ensures
+pub returns-in_err-cells-clause-code : goal.returns-in_err-cells-clause-code
+unfolding code_of or_else
+returns-in_err-cells-clause-code c =
+    let r = room_for c.args.edition c.args.file.now c.in_ok-n.ensures.laid in
+    let p = err_from_is_err_and c.from_residual-in_err-cells.result c.from_residual-in_err-cells.ensures.1 in
+    rw (p.1, p.2) (
+    c.in_err-cells.ensures
+    ∙ cells_are c.args.edition c.args.file.now r (c.from-m.ensures ∙ c.slots_in.ensures) c.words_in.ensures c.words_in-2.ensures
+    c.opens.ensures c.callouts.ensures
+    ∙ c.in_ok-n.ensures.code
+    )
 
-pub slice_bounds-cell_code-end-2 : goal.slice_bounds-cell_code-end-2
-slice_bounds-cell_code-end-2 c =
-    let r = room c.args.edition c.args.file.now c.wide-n.ensures (c.layout_code-layout.ensures.laid c.if-layout-ne0.false) in
-    sym (length-take-le _ _ (front_enough _ r c.words_in-callouts.ensures))
+pub returns-clause-code : goal.returns-clause-code
+unfolding code_of or_else
+returns-clause-code c =
+    let r = room_for c.args.edition c.args.file.now c.in_ok-n.ensures.laid in
+    c.in_ok-cells.ensures
+    ∙ cells_are c.args.edition c.args.file.now r (c.from-m.ensures ∙ c.slots_in.ensures) c.words_in.ensures c.words_in-2.ensures
+    c.opens.ensures c.callouts.ensures
+    ∙ c.in_ok-n.ensures.code
 
-pub cell_code-cells-requires-clause-m_bound : goal.cell_code-cells-requires-clause-m_bound
-cell_code-cells-requires-clause-m_bound c =
-    let r = room c.args.edition c.args.file.now c.wide-n.ensures (c.layout_code-layout.ensures.laid c.if-layout-ne0.false) in
-    omega (arith, c.wide-m.ensures, c.slots_in.ensures, slots-few c.args.edition c.args.file.now r.items r.few)
-
-pub returns-then-cells-ne0 : goal.returns-then-cells-ne0
-returns-then-cells-ne0 c =
-    let r = room c.args.edition c.args.file.now c.wide-n.ensures (c.layout_code-layout.ensures.laid c.if-layout-ne0.false) in
-    c.no_rota-then-cells-ne0.ensures
-    ∙ refuses-cells _ _ _ c.layout_code-layout.ensures.code c.if-layout-ne0.false r (c.wide-m.ensures ∙ c.slots_in.ensures)
-    c.words_in-opens.ensures c.words_in-callouts.ensures c.cell_code-cells.ensures c.if-cells-ne0.true
-
-pub returns : goal.returns
-returns c =
-    let r = room c.args.edition c.args.file.now c.wide-n.ensures (c.layout_code-layout.ensures.laid c.if-layout-ne0.false) in
-    holds_rota _ _ _ c.layout_code-layout.ensures.code c.if-layout-ne0.false r (c.wide-m.ensures ∙ c.slots_in.ensures)
-    c.words_in-opens.ensures c.words_in-callouts.ensures c.cell_code-cells.ensures c.if-cells-ne0.false
+pub returns-clause-rota : goal.returns-clause-rota
+returns-clause-rota c =
+    let r = room_for c.args.edition c.args.file.now c.in_ok-n.ensures.laid in
+    is_rota c.args.edition c.args.file.now r (c.from-m.ensures ∙ c.slots_in.ensures) c.words_in.ensures c.words_in-2.ensures

@@ -2,8 +2,8 @@
 use Rattle.least.proofs.Shifts.{Lowering}
 use Rattle.least.proofs.lower.Given as goal
 
-abbrev pub invariant-loop-s : goal.invariant-loop-s
-invariant-loop-s l = Lowering l.opens l.x l.may l.fixed l.all l.fn.owner l.owner l.slot l.f l.s
+abbrev pub invariant-loop-x : goal.invariant-loop-x
+invariant-loop-x l = Lowering l.opens l.x l.may l.fixed l.all l.fn.m.owner l.m.owner l.m.slot l.m.free l.s
 
-abbrev pub decreases-loop-s : goal.decreases-loop-s
-decreases-loop-s l = l.s
+abbrev pub decreases-loop-x : goal.decreases-loop-x
+decreases-loop-x l = l.s

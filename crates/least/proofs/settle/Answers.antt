@@ -5,5 +5,5 @@ use Rattle.least.proofs.settle.Goals as goal
 pub loop-i-preserved : goal.loop-i-preserved
 loop-i-preserved c =
     let I = c.loop-i.invariant in
-    settling_turn I c.loop-i-test.true (settling_keeps I c.loop-i-test.true c.wide-s.ensures c.below.ensures c.if-below-ne0.false)
-    c.with-fixed_now.ensures
+    settling_turn I c.loop-i-test.true (settling_keeps I c.loop-i-test.true c.slot_of-s.ensures c.below.ensures c.if-below-ne0.false)
+    c.with-fixed.ensures

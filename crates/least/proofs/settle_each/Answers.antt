@@ -3,5 +3,4 @@ use Rattle.least.proofs.Settles.{settling_turn}
 use Rattle.least.proofs.settle_each.Goals as goal
 
 pub loop-i-preserved : goal.loop-i-preserved
-loop-i-preserved c =
-    let I = c.loop-i.invariant in (settling_turn I.0 c.loop-i-test.true c.minimize-r.ensures c.with-fixed_now.ensures, I.1)
+loop-i-preserved c = settling_turn c.loop-i.invariant c.loop-i-test.true c.minimize-k.ensures c.with-fixed.ensures

@@ -4,8 +4,5 @@ use Rattle.model.proofs.Walks.{Joining}
 use Rattle.augment.specs.Table.{own}
 use Rattle.maximum.proofs.deficient_set.Given as goal
 
-abbrev pub invariant-loop-left : goal.invariant-loop-left
-invariant-loop-left l = Joining (λ k. 2 ^ own l.owner k) 64 l.exposed l.fn.dead l.all l.left
-
-abbrev pub decreases-loop-left : goal.decreases-loop-left
-decreases-loop-left l = l.left
+abbrev pub invariant-loop-k : goal.invariant-loop-k
+invariant-loop-k l = Joining (λ k. 2 ^ own l.m.owner k) 64 l.fn.left.exposed l.fn.left.dead l.all l.k-iterator.0

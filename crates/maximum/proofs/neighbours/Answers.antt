@@ -5,21 +5,22 @@ use Rattle.model.specs.Deficiency.{neighbours}
 use Rattle.model.proofs.Walks.{joining_start, joining_turn, joining_end}
 use Rattle.maximum.proofs.neighbours.Goals as goal
 
-pub loop-left-init : goal.loop-left-init
-loop-left-init c = joining_start (omega arith) c.ranges.items.fits c.requires.1 (λ k h b. (c.type_inv.opens k).fits)
+pub loop-x-init : goal.loop-x-init
+loop-x-init c =
+    rw c.into_iter-x-iterator.ensures.into_iter_gives
+    (joining_start (omega arith) c.ranges.items.fits c.requires.1 (λ k h b. (c.type_inv.opens k).fits))
 
 pub offset_bounds-opens-x : goal.offset_bounds-opens-x
-offset_bounds-opens-x c = omega (arith, (joining_turn c.loop-left.invariant c.loop-left-test.true c.lowest-x.ensures).below, c.requires.0)
+offset_bounds-opens-x c =
+    let s = c.in-Some.ensures.steps in
+    omega (arith, (joining_turn c.loop-x.invariant s.0 s.1).below, c.requires.0)
 
 pub bounds-opens-x : goal.bounds-opens-x
-bounds-opens-x c = (joining_turn c.loop-left.invariant c.loop-left-test.true c.lowest-x.ensures).below
+bounds-opens-x c = let s = c.in-Some.ensures.steps in (joining_turn c.loop-x.invariant s.0 s.1).below
 
-pub loop-left-smaller : goal.loop-left-smaller
-loop-left-smaller c = rw c.without_lowest-left.ensures (joining_turn c.loop-left.invariant c.loop-left-test.true c.lowest-x.ensures).less
-
-pub loop-left-preserved : goal.loop-left-preserved
-loop-left-preserved c = rw c.without_lowest-left.ensures (joining_turn c.loop-left.invariant c.loop-left-test.true c.lowest-x.ensures).next
+pub loop-x-preserved : goal.loop-x-preserved
+loop-x-preserved c = let s = c.in-Some.ensures.steps in rw s.2 (joining_turn c.loop-x.invariant s.0 s.1).next
 
 pub returns : goal.returns
 unfolding neighbours
-returns c = joining_end c.loop-left.invariant c.loop-left-test.false ∙ or_zero_l _
+returns c = joining_end c.loop-x.invariant c.in-None.ensures.steps.0 ∙ or_zero_l _

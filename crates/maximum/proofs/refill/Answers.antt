@@ -45,11 +45,10 @@ module _ {w o p : List ℕ} {f e d : ℕ} (R : Refillable w o p f e d) {near : �
   refill-vacated : {o' p' : List ℕ} {f' k : ℕ} → Vacated w o p f set set o' p' f' k → Fillable w o' p' f' e
   refill-vacated W = search (R.fillable.exposed, R.fillable.matched, W.new, W.stay)
 
-pub vacate-r-requires : goal.vacate-r-requires
-vacate-r-requires c =
-    refill-vacatable c.requires c.neighbours.ensures (unheld-none c.requires.fillable.table c.unheld.ensures c.if-unheld-ne0.false)
+pub vacate-requires : goal.vacate-requires
+vacate-requires c =
+    refill-vacatable c.requires c.neighbours.ensures (unheld-none c.requires.fillable.table c.unheld.ensures c.if-unheld-eq0.true)
 
-pub returns-then-r-eq64 : goal.returns-then-r-eq64
-returns-then-r-eq64 c =
-    let r = c.vacate-r.ensures.none c.if-r-eq64.true in
-    rw (r.0.owner, r.0.slot) (refill-certificate c.requires c.neighbours.ensures (search rules) r.1)
+pub returns : goal.returns
+returns c =
+    rw c.in-Err.ensures.same (refill-certificate c.requires c.neighbours.ensures (search rules) c.in-Err.ensures.none)

@@ -3,8 +3,9 @@ use Rattle.std.specs.Prelude.{◌-◌, length}
 use Rattle.min_cost.proofs.Raises.{Rounds}
 use Rattle.min_cost.proofs.cheapest.Given as goal
 
-abbrev pub invariant-loop-m : goal.invariant-loop-m
-invariant-loop-m l = Rounds l.opens l.callouts l.tight l.dual l.level l.owner l.slot l.m.free l.m.exposed l.m.dead l.number
+abbrev pub invariant-loop-left : goal.invariant-loop-left
+invariant-loop-left l =
+    Rounds l.opens l.callouts l.tight l.duals.item l.duals.level l.m.owner l.m.slot l.m.free l.left.exposed l.left.dead l.number
 
-abbrev pub decreases-loop-m : goal.decreases-loop-m
-decreases-loop-m l = length l.opens - l.number
+abbrev pub decreases-loop-left : goal.decreases-loop-left
+decreases-loop-left l = length l.opens - l.number

@@ -3,7 +3,4 @@ use Rattle.next.proofs.Advances.{Advancing}
 use Rattle.next.proofs.advance.Given as goal
 
 abbrev pub invariant-loop-i : goal.invariant-loop-i
-invariant-loop-i l = Advancing l.opens l.plan l.owner l.slot l.free l.fixed l.after l.i
-
-abbrev pub decreases-loop-i : goal.decreases-loop-i
-decreases-loop-i l = l.i
+invariant-loop-i l = Advancing l.opens l.fn.m.slot l.m.owner l.m.slot l.m.free l.fixed l.after l.i

@@ -3,20 +3,12 @@ use Rattle.std.proofs.Common.{arith}
 use Rattle.ryser.proofs.Tabling.{all-low, underway, counted}
 use Rattle.ryser.proofs.count.Goals as goal
 
-pub row_sums-requires : goal.row_sums-requires
-row_sums-requires c = (all-low _ c.requires c.low-set.ensures, omega arith)
-
-pub row_sums-requires-2 : goal.row_sums-requires-2
-row_sums-requires-2 c = (all-low _ c.requires c.low-set.ensures, omega arith)
-
-pub row_sums-requires-3 : goal.row_sums-requires-3
-row_sums-requires-3 c = (all-low _ c.requires c.low-set.ensures, omega arith)
+pub of-requires : goal.of-requires
+of-requires c = all-low _ c.requires c.low.ensures
 
 pub signed_sum-requires : goal.signed_sum-requires
-signed_sum-requires c =
-    underway c.requires c.loop-t.invariant c.loop-t-test.false c.low-set.ensures c.row_sums.ensures c.row_sums-2.ensures c.row_sums-3.ensures
+signed_sum-requires c = underway c.requires c.loop-j.invariant c.loop-j-test.false (rw c.low.ensures at c.of.ensures)
 
 pub returns : goal.returns
 returns c =
-    counted c.requires c.loop-t.invariant c.loop-t-test.false c.low-set.ensures c.row_sums.ensures c.row_sums-2.ensures c.row_sums-3.ensures
-    _ (omega arith) c.signed_sum.ensures
+    counted c.requires c.loop-j.invariant c.loop-j-test.false (rw c.low.ensures at c.of.ensures) _ (omega arith) c.signed_sum.ensures

@@ -1,24 +1,12 @@
--- `checks::all_zero` meets its contract: a byte that is not 0, one turn of the loop, and its end. Assumes nothing.
-use Rattle.std.proofs.Common.{◌∙◌, sym, length, replicate, arith}
-use lib.ListN.{length-replicate, get_or-replicate}
-use Rattle.file_blocks.proofs.Comparing.{same_more, same_differs, same_done}
+-- The chain asks each byte whether it is 0.
+use Rattle.std.proofs.Common.{rules, ◌∙◌, sym, eqb}
+use Rattle.std.proofs.lemmas.Iterator.{YieldsList-from_slice}
+use Rattle.std.proofs.lemmas.Iterator.Search.{all_from_yields_List}
+use borrow.Author.Tests.{tests}
+use Rattle.file_blocks.proofs.Comparing.{zeros_are}
 use Rattle.file_blocks.proofs.checks.all_zero.Goals as goal
-
-pub returns-then-part-i-ne0 : goal.returns-then-part-i-ne0
-returns-then-part-i-ne0 c =
-    let k = length c.args.part.now in
-    same_differs _ (replicate k 0) c.loop-i.i (length-replicate k 0) c.loop-i.invariant.1 (omega arith)
-    (λ e. c.if-part-i-ne0.true (e ∙ get_or-replicate k c.loop-i.i 0 0 (omega arith)))
-
-pub loop-i-preserved : goal.loop-i-preserved
-loop-i-preserved c =
-    let k = length c.args.part.now in (
-      omega arith,
-      same_more _ (replicate k 0) c.loop-i.i (length-replicate k 0) c.loop-i.invariant.1 (omega arith)
-          (c.if-part-i-ne0.false ∙ sym (get_or-replicate k c.loop-i.i 0 0 (omega arith))),
-    )
 
 pub returns : goal.returns
 returns c =
-    let k = length c.args.part.now in
-    same_done _ (replicate k 0) c.loop-i.i (length-replicate k 0) c.loop-i.invariant.1 (omega arith)
+    all_from_yields_List (λ x. eqb x 0) _ _ _ c.all.ensures.ran (YieldsList-from_slice c.args.part.now (cc)) (λ x b q k. search (rules, tests))
+    ∙ sym (zeros_are c.args.part.now)

@@ -1,15 +1,16 @@
--- `checks::header_laid` meets its contract: the mark differs, or the other fields decide. Assumes nothing.
+-- The mark differs, or the other fields decide.
 use Rattle.std.proofs.Common.{◌∙◌, sym}
 use Rattle.model.specs.File.{mark}
 use Rattle.file_blocks.proofs.Layouts.{head_mark, head_rest}
 use Rattle.file_blocks.proofs.checks.header_laid.Goals as goal
 
-pub returns-then-not-same : goal.returns-then-not-same
+pub returns-then-starts_with : goal.returns-then-starts_with
 unfolding mark
-returns-then-not-same c = head_mark _ c.args.head.now _ _ _ _ c.requires (sym c.same.ensures ∙ c.if-not-same.true)
+returns-then-starts_with c =
+    c.ends_with.ensures.value
+    ∙ head_rest _ c.args.head.now _ _ _ _ c.requires _ c.fields.ensures (sym c.starts_with.ensures.value ∙ c.if-starts_with.true)
 
-pub returns : goal.returns
+pub returns-else-starts_with : goal.returns-else-starts_with
 unfolding mark
-returns c =
-    c.same-2.ensures
-    ∙ head_rest _ c.args.head.now _ _ _ _ c.requires _ c.fields-rest.ensures (sym c.same.ensures ∙ c.if-not-same.false)
+returns-else-starts_with c =
+    c.if-starts_with.false ∙ head_mark _ c.args.head.now _ _ _ _ c.requires (sym c.starts_with.ensures.value ∙ c.if-starts_with.false)

@@ -1,13 +1,22 @@
 -- The file's refusal, then that for room. Assumes nothing.
-use Rattle.std.proofs.Common.{◌∙◌}
-use Rattle.rota.proofs.OnFiles.{for_refused, for_short, for_found}
+use Rattle.std.proofs.Common.{arith}
+use Rattle.std.proofs.lemmas.Result.{err_from_is_err_and}
+use Rattle.model.specs.Refusal.{code_of, number}
+use Rattle.model.specs.FileAnswers.{plan_file_code}
+use Rattle.model.proofs.Refusals.{stops, numbered}
+use Rattle.rota.proofs.OnFiles.{plan_short, plan_wide}
 use Rattle.rota.proofs.file_plans.rota_for.Goals as goal
 
-pub returns-then-code-ne0 : goal.returns-then-code-ne0
-returns-then-code-ne0 c = for_refused _ _ _ c.rota_in-found.ensures c.if-code-ne0.true
+pub returns-in_err-rota-clause-code : goal.returns-in_err-rota-clause-code
+unfolding code_of plan_file_code
+returns-in_err-rota-clause-code c =
+    let p = err_from_is_err_and c.from_residual.result c.from_residual.ensures.1 in
+    rw (p.1, p.2) (stops _ _ _ c.in_err-rota.ensures.code (λ z. omega (arith, numbered c.in_err-rota.field-0.0, z)))
 
-pub returns-then-places-lt64 : goal.returns-then-places-lt64
-returns-then-places-lt64 c = c.no_rota.ensures ∙ for_short _ _ _ c.rota_in-found.ensures c.if-code-ne0.false c.if-places-lt64.true
+pub returns-then-places-lt64-clause-code : goal.returns-then-places-lt64-clause-code
+unfolding code_of number
+returns-then-places-lt64-clause-code c = plan_short _ _ _ c.in_ok-rota.ensures.code c.if-places-lt64.true
 
-pub returns : goal.returns
-returns c = for_found _ _ _ c.rota_in-found.ensures c.if-code-ne0.false c.if-places-lt64.false
+pub returns-clause-code : goal.returns-clause-code
+unfolding code_of
+returns-clause-code c = plan_wide _ _ _ c.in_ok-rota.ensures.code c.if-places-lt64.false

@@ -1,43 +1,36 @@
--- The file's refusal, then those for room, and both tables are stored last. Assumes nothing.
-use Rattle.std.proofs.Common.{sym}
-use Rattle.std.proofs.Math.Seq.{length-take-le}
-use Rattle.rota.proofs.FileTables.{opens_enough, callouts_enough, refuses-file, refuses-opens, refuses-callouts, reads}
+-- What was read, or its refusal. Assumes nothing.
+use Rattle.std.proofs.Common.{ℕ, ◌∙◌, sym, ap}
+use Rattle.model.specs.declared.ReadAnswer.{ReadAnswer}
+use Rattle.model.specs.Refusal.{code_of, written}
+use Rattle.model.specs.File.{opens_in, callouts_in}
+use Rattle.model.specs.FileAnswers.{read_refused, read_answer, read_opens, read_callouts}
+use Rattle.model.proofs.Refusals.{answers_number, accepted-answer}
 use Rattle.rota.proofs.files.rota_read_file.Goals as goal
 
-pub returns-then-code-ne0 : goal.returns-then-code-ne0
-returns-then-code-ne0 c =
-    let r = refuses-file _ _ c.args.opens.now c.args.callouts.now c.rota_in-found.ensures c.if-code-ne0.true in
-    record { answer = r.0; opens = r.1.0; callouts = r.1.1 }
+pub returns-in-Ok-clause-answer : goal.returns-in-Ok-clause-answer
+unfolding code_of read_answer
+returns-in-Ok-clause-answer c =
+    let whole : ℕ → ReadAnswer = λ k. record { code = 0; n = k } in
+    c.given.ensures ∙ ap whole c.in-Ok.ensures.n ∙ accepted-answer _ (sym c.in-Ok.ensures.code) read_refused _
 
-pub returns-then-opens-n : goal.returns-then-opens-n
-returns-then-opens-n c =
-    let r = refuses-opens _ _ c.args.opens.now c.args.callouts.now c.rota_in-found.ensures c.if-code-ne0.false c.if-opens-n.true in
-    record { answer = r.0; opens = r.1.0; callouts = r.1.1 }
+pub returns-in-Ok-clause-opens : goal.returns-in-Ok-clause-opens
+unfolding read_opens
+returns-in-Ok-clause-opens c = c.in-Ok.ensures.opens ∙ ap (λ k. written k (opens_in c.args.file.now) c.args.opens.now) c.in-Ok.ensures.code
 
-pub returns-then-callouts-n : goal.returns-then-callouts-n
-returns-then-callouts-n c =
-    let r =
-    refuses-callouts _ _ c.args.opens.now c.args.callouts.now c.rota_in-found.ensures c.if-code-ne0.false c.if-opens-n.false
-    c.if-callouts-n.true in
-    record { answer = r.0; opens = r.1.0; callouts = r.1.1 }
+pub returns-in-Ok-clause-callouts : goal.returns-in-Ok-clause-callouts
+unfolding read_callouts
+returns-in-Ok-clause-callouts c =
+    c.in-Ok.ensures.callouts ∙ ap (λ k. written k (callouts_in c.args.file.now) c.args.callouts.now) c.in-Ok.ensures.code
 
-pub slice_bounds-open_words-end : goal.slice_bounds-open_words-end
-slice_bounds-open_words-end c = opens_enough _ _ c.args.opens.now c.args.callouts.now c.rota_in-found.ensures c.if-code-ne0.false
+pub returns-in-Err-clause-answer : goal.returns-in-Err-clause-answer
+unfolding read_answer
+returns-in-Err-clause-answer c = c.refused.ensures ∙ answers_number _ _ c.in-Err.ensures.code read_refused _
 
-pub slice_bounds-store-end : goal.slice_bounds-store-end
-slice_bounds-store-end c =
-    sym (length-take-le _ _ (opens_enough _ _ c.args.opens.now c.args.callouts.now c.rota_in-found.ensures c.if-code-ne0.false))
+pub returns-in-Err-clause-opens : goal.returns-in-Err-clause-opens
+unfolding read_opens
+returns-in-Err-clause-opens c = c.in-Err.ensures.opens ∙ ap (λ k. written k (opens_in c.args.file.now) c.args.opens.now) c.in-Err.ensures.code
 
-pub slice_bounds-callout_words-end : goal.slice_bounds-callout_words-end
-slice_bounds-callout_words-end c = callouts_enough _ _ c.args.opens.now c.args.callouts.now c.rota_in-found.ensures c.if-code-ne0.false
-
-pub slice_bounds-store-end-2 : goal.slice_bounds-store-end-2
-slice_bounds-store-end-2 c =
-    sym (length-take-le _ _ (callouts_enough _ _ c.args.opens.now c.args.callouts.now c.rota_in-found.ensures c.if-code-ne0.false))
-
-pub returns : goal.returns
-returns c =
-    let r =
-    reads _ _ c.args.opens.now c.args.callouts.now c.rota_in-found.ensures c.if-code-ne0.false c.if-opens-n.false c.if-callouts-n.false
-    c.store.ensures c.store-2.ensures in
-    record { answer = r.0; opens = r.1.0; callouts = r.1.1 }
+pub returns-in-Err-clause-callouts : goal.returns-in-Err-clause-callouts
+unfolding read_callouts
+returns-in-Err-clause-callouts c =
+    c.in-Err.ensures.callouts ∙ ap (λ k. written k (callouts_in c.args.file.now) c.args.callouts.now) c.in-Err.ensures.code

@@ -1,36 +1,31 @@
--- The tests are the definition's, in their order, and the blocks are written last. Assumes nothing.
-use Rattle.std.proofs.Common.{◌∙◌, sym, length-take, arith}
+-- What was written, or its refusal. Assumes nothing.
+use Rattle.std.proofs.Common.{ℕ, ◌∙◌, sym, ap}
 use Rattle.model.specs.declared.Edition.{Edition}
-use Rattle.model.proofs.Accepted.{tables-from}
-use Rattle.model.proofs.Editions.{one_tells}
-use Rattle.rota.proofs.TableCalls.{few-slots}
-use Rattle.rota.proofs.FileTables.{refuses-tables, refuses-room, writes}
+use Rattle.model.specs.declared.WriteAnswer.{WriteAnswer}
+use Rattle.model.specs.Refusal.{code_of, written}
+use Rattle.model.specs.File.{file_bytes}
+use Rattle.model.specs.FileAnswers.{write_refused, write_answer, write_file}
+use Rattle.model.proofs.Refusals.{answers_number, accepted-answer}
 use Rattle.rota.proofs.files.rota_write_file.Goals as goal
 
-pub returns-then-code-ne0 : goal.returns-then-code-ne0
-returns-then-code-ne0 c =
-    let w = refuses-tables Edition.One _ _ _ _ c.args.file.now c.table_code-code.ensures c.if-code-ne0.true in
-    record { answer = w.0; file = w.1 }
+pub returns-in-Ok-clause-answer : goal.returns-in-Ok-clause-answer
+unfolding code_of write_answer
+returns-in-Ok-clause-answer c =
+    let whole : ℕ → WriteAnswer = λ k. record { code = 0; bytes = k } in
+    c.given.ensures ∙ ap whole c.in-Ok.ensures.bytes ∙ accepted-answer _ (sym c.in-Ok.ensures.code) write_refused _
 
-pub blocks_for-size-requires : goal.blocks_for-size-requires
-blocks_for-size-requires c = few-slots _ _ _ _ c.table_code-code.ensures c.if-code-ne0.false
+pub returns-in-Ok-clause-file : goal.returns-in-Ok-clause-file
+unfolding write_file
+returns-in-Ok-clause-file c =
+    let a = c.args in
+    c.in-Ok.ensures.file ∙ ap (λ k. written k (file_bytes Edition.One a.n a.n a.opens.now a.callouts.now) a.file.now) c.in-Ok.ensures.code
 
-pub returns-then-file-size : goal.returns-then-file-size
-returns-then-file-size c =
-    let w =
-    refuses-room Edition.One _ _ _ _ c.args.file.now c.table_code-code.ensures c.if-code-ne0.false c.blocks_for-size.ensures.0
-    c.if-file-size.true in
-    record { answer = w.0; file = w.1 }
+pub returns-in-Err-clause-answer : goal.returns-in-Err-clause-answer
+unfolding write_answer
+returns-in-Err-clause-answer c = c.refused.ensures ∙ answers_number _ _ c.in-Err.ensures.code write_refused _
 
-pub write_blocks-requires : goal.write_blocks-requires
-write_blocks-requires c =
-    let t = tables-from _ _ _ _ (sym c.table_code-code.ensures ∙ c.if-code-ne0.false) in
-    (t.few-items, t.few-items, t.open_words, t.callout-words, simp length-take (omega (arith, c.blocks_for-size.ensures.0)))
-
-pub returns : goal.returns
-returns c =
-    let w =
-    writes Edition.One _ _ _ _ c.args.file.now c.table_code-code.ensures c.if-code-ne0.false c.blocks_for-size.ensures.0 c.if-file-size.false
-    (few-slots _ _ _ _ c.table_code-code.ensures c.if-code-ne0.false) (one_tells c.args.n)
-    (λ i h. (c.type_inv.callouts i).fits) c.write_blocks.ensures in
-    record { answer = w.0; file = w.1 }
+pub returns-in-Err-clause-file : goal.returns-in-Err-clause-file
+unfolding write_file
+returns-in-Err-clause-file c =
+    let a = c.args in
+    c.in-Err.ensures.file ∙ ap (λ k. written k (file_bytes Edition.One a.n a.n a.opens.now a.callouts.now) a.file.now) c.in-Err.ensures.code

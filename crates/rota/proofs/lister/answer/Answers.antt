@@ -6,6 +6,6 @@ pub returns-then-lister : goal.returns-then-lister
 unfolding lister_answer
 returns-then-lister c = rw c.if-lister.true c.rota_next_plan.ensures
 
-pub returns : goal.returns
+pub returns-else-lister : goal.returns-else-lister
 unfolding lister_answer
-returns c = rw c.if-lister.false c.rota_first_plan.ensures
+returns-else-lister c = rw c.if-lister.false c.rota_first_plan.ensures

@@ -1,6 +1,0 @@
--- A turn makes one item's dual and word. Assumes nothing.
-use Rattle.min_cost.proofs.Levels.{raising_turn}
-use Rattle.min_cost.proofs.raise.Goals as goal
-
-pub loop-i-preserved : goal.loop-i-preserved
-loop-i-preserved c = raising_turn c.loop-i.invariant c.loop-i-test.true c.bit.ensures c.select.ensures
