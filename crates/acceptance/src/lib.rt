@@ -75,7 +75,7 @@ pub fn fleet(vehicles: u64) -> Result<(), Refusal>
 }
 
 // The tables of n items and m slots that a call got, not tested yet. More than 64 items are refused before m is used. Each call writes the
-// record out, and so says itself what it takes for m.
+// record out: it says itself what it takes for m, and a proof sees the four values, which a constructor would hide behind its clauses.
 #[derive(Clone, Copy)]
 pub struct Tables<'a> {
     pub n: usize,

@@ -1,5 +1,5 @@
 // The records that answer the calls: refused by a test, short of a plan, or given what was asked for. 9 and 11 stand in those alone that bring
-// figures with them, and each once.
+// figures with them: 9 once for each record, 11 once.
 #![tactic(auto)]
 
 ghost use Rattle.std.specs.Prelude.{◌≡◌, ℕ};

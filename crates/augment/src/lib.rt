@@ -9,7 +9,7 @@ ghost use Rattle.augment.specs.Search.{Certificate, Displaceable, Assigned, Barr
 
 // A partial matching of items and slots: owner[k] is the item that holds slot k, slot[x] the slot that item x holds, and `free` the
 // slots that nobody holds. What `owner` has at a free slot means nothing, nor what `slot` has at an item without one: `free` says which entries
-// count, and is the word that a search cuts with. The open words stand beside it and not in it, since `min_cost` writes them anew between two
+// count, and is the word that a search cuts with. Fixed tables, no heap. The open words stand beside it and not in it, since `min_cost` writes them anew between two
 // searches; and the definitions take its parts one by one, as those that theorem `last_slot` names do.
 #[derive(Clone, Copy)]
 pub struct Matching {

@@ -40,6 +40,7 @@ fn grow(m: &Matching, opens: &[u64], allowed: &mut [u64; 64], path: u64, start: 
 {
     let mut part = start;
     let mut next = words::minus(part.rest & part.out, part.set);
+    // what is left to reach changes with each turn, so no range holds it
     while next != 0 {
         if next & path != 0 {
             return part;

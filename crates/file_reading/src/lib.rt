@@ -37,6 +37,7 @@ fn layout(edition: Edition, file: &[u8]) -> Result<usize, Refusal>
 }
 
 // The words of n items, from this place on in each block; zeros after them, in a fixed table (no heap).
+// An item's place is reckoned from its number, since only the first 496 bytes after a header hold items.
 fn words_in(file: &[u8], place: usize, n: usize) -> [u64; 64]
     requires { (place ≤ 24) × (n ≤ 64) × (n ≤ 31 * (length file.now / 512)) }
     ensures { result ≡ words_in place n (blocks_in file.now) ++ drop n (replicate 64 0) }

@@ -40,6 +40,7 @@ pub fn lower(m: &mut Matching, opens: &[u64], x: usize, may: u64, fixed: u64) ->
 {
     let all = words::minus(may, fixed);
     let mut s = m.slot_of(x);
+    // each turn goes on from the slot that the last one found, so no range holds it
     loop {
         let cand = all & words::low(s);
         if cand == 0 {
@@ -139,7 +140,8 @@ fn settle_each(m: &mut Matching, opens: &[u64], from: usize, mut fixed: u64)
 }
 
 // The same, but first the items that can have no lower slot are passed, up to one that may: an item keeps its slot if the items before
-// it hold every lower one that is open to it. Where all are passed, nothing is searched.
+// it hold every lower one that is open to it. Where all are passed, nothing is searched. Two functions, since the table of `later` is made only
+// where an item may have a lower slot.
 pub fn settle(m: &mut Matching, opens: &[u64], from: usize, mut fixed: u64)
     requires { Settleable opens.now m.old.owner m.old.slot m.old.free from fixed }
     ensures { Settled opens.now m.old.slot from m.new.slot }

@@ -1,4 +1,5 @@
 // The text of a listing, in a lent page: each method writes its text behind what is written already. The page has room for it.
+// At most 64 words are asked of a plain slice, as below.
 #![tactic(auto)]
 
 ghost use Rattle.std.specs.Prelude.{◌≡◌, ◌+◌, ◌*◌, ◌≤◌, length};
@@ -141,7 +142,7 @@ impl Page<'_> {
         }
     }
 
-    // The listing of any bytes as a rota file.
+    // The listing of any bytes as a rota file, over fixed tables (no heap).
     fn listing(&mut self, file: &[u8])
         requires { Room (listing_text Edition.One file.now) self.old }
         ensures { Put (listing_text Edition.One file.now) self.old self.new }

@@ -12,7 +12,7 @@ ghost use Rattle.min_cost.specs.Dual.{Square, Lifted, Raisable, Raised, Cheapest
 use augment::Matching;
 use model::PlanAnswer;
 
-// item[i] is u[i] less 1, and level[x] are the slots with v = x.
+// item[i] is u[i] less 1, and level[x] are the slots with v = x: fixed tables, no heap.
 #[derive(Clone, Copy)]
 struct Duals {
     item: [usize; 64],
@@ -82,6 +82,7 @@ fn cheapest(opens: &[u64], callouts: &[u64]) -> Cheap
     let mut m = Matching::empty();
     let mut left = maximum::fill(&mut m, tight, words::low(opens.len()));
     let mut number = 0;
+    // who is left exposed changes with each turn, so no range holds it
     while left.exposed != 0 {
         number += words::size(left.exposed);
         let up = maximum::deficient_set(&m, left);

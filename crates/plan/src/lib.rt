@@ -29,6 +29,7 @@ pub fn adopt(opens: &[u64], plan: [u8; 64]) -> Option<Matching>
         return None;
     }
     let mut m = Matching::empty();
+    // an item is served by its number
     for i in 0..opens.len() {
         let s = usize::from(plan[i]);
         if s >= 64 || !words::has(m.vacant(opens, i), s) {

@@ -48,7 +48,7 @@ fn quad(x: u64, y: u64) -> u64
     (p % 65536) * (p / 281474976710656)
 }
 
-// The sums of the rows for a set of slots: of items 0 to 7, 8 to 15 and 16 to 23.
+// The sums of the rows for a set of slots: of items 0 to 7, 8 to 15 and 16 to 23. Handed on as three words they took as long or longer.
 #[derive(Clone, Copy)]
 struct Sums {
     first: u64,
@@ -97,7 +97,8 @@ impl Sums {
         full(self.first) & full(self.second) & full(self.third)
     }
 
-    // The set's term, modulo 2 to the power 64, of twenty sums: thirteen factors are below it, seven more make the last product.
+    // The set's term, modulo 2 to the power 64, of twenty sums: thirteen factors are below it, seven more make the last product. Bytes are taken
+    // by division, as the definition of `bytes` takes them.
     fn term(self) -> u64
         requires { SmallSums self }
         ensures { result ≡ multiplied (bytes 8 self.first) * multiplied (bytes 8 self.second) * multiplied (bytes 4 self.third) % 2 ^ 64 }
