@@ -44,7 +44,7 @@ class Edit:
     places: tuple
 
 
-FUNCTION = re.compile(r'^((?:pub )?(?:extern "C" )?fn (\w+)(?:<.*?>)?\(.*?^\})$', re.M | re.S)
+FUNCTION = re.compile(r'^((?:pub(?:\(crate\))? )?(?:extern "C" )?fn (\w+)(?:<.*?>)?\(.*?^\})$', re.M | re.S)
 
 
 def functions_in(file, text):

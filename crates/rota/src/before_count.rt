@@ -7,7 +7,7 @@ use answers::ShortAnswer;
 use model::{PlanAnswer, Refusal};
 
 // The answer of the search, if it found a plan; else what the call answers: its tests' refusal, or 9.
-pub fn planned<A: ShortAnswer, F: FnOnce() -> PlanAnswer>(
+pub(crate) fn planned<A: ShortAnswer, F: FnOnce() -> PlanAnswer>(
     tested: Result<(), Refusal>,
     search: F,
 ) -> Result<PlanAnswer, A>
