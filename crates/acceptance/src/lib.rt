@@ -1,5 +1,5 @@
 // Refusals 1 to 7: whether two tables are accepted as a rota, and whether its plans can be counted and a fleet priced. Each test
-// stands alone; the methods of Tables make those of a call in their order.
+// stands alone; the methods of CallTables make those of a call in their order.
 #![tactic(auto)]
 
 ghost use Rattle.std.specs.Prelude.{◌≡◌, cond, ◌≤◌, eqb, length};
@@ -77,7 +77,7 @@ pub fn fleet(vehicles: u64) -> Result<(), Refusal>
 // The tables of n items and m slots that a call got, not tested yet. More than 64 items are refused before m is used. Each call writes the
 // record out: it says itself what it takes for m, and a proof sees the four values, which a constructor would hide behind its clauses.
 #[derive(Clone, Copy)]
-pub struct Tables<'a> {
+pub struct CallTables<'a> {
     pub n: usize,
     pub m: usize,
     pub opens: &'a [u64],
@@ -85,7 +85,7 @@ pub struct Tables<'a> {
     ghost slots: { n ≤ 64 → m ≤ 64 },
 }
 
-impl Tables<'_> {
+impl CallTables<'_> {
     // 1 to 4.
     #[tactic(auto, unfolding(model::specs::Rota::table_code, model::specs::Refusal::code_of))]
     pub fn accepted(&self) -> Result<(), Refusal>

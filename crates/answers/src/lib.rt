@@ -9,7 +9,7 @@ ghost use Rattle.model.specs.PlanAnswers.{given, refused, short, over_cap};
 use model::{Plan, PlanAnswer, Refusal};
 
 mod counts;
-mod files;
+mod file_records;
 mod grades;
 mod prices;
 

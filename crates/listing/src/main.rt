@@ -1,6 +1,8 @@
 // The listing of the rota file at standard input, on standard output, whole. It takes no arguments. What fails is told on standard error.
 #![tactic(auto)]
 
+ghost use Rattle.std.specs.Prelude.{◌≤◌, length, IfOk};
+
 use std::env::{Env, FillError};
 use std::io;
 use std::io::{Print, Read};
@@ -25,11 +27,27 @@ fn list(rt: &HostRuntime, file: &[u8]) {
     }
 }
 
-// One byte more than the longest file is read, so that a longer one is refused.
+// Reads until the buffer is full, the input ends or a read fails. Each read asks for all that there is room for, since a message is cut
+// where a read is short; and what is read goes where it stays, so no memory is asked for.
+fn read_bytes(rt: &HostRuntime, buffer: &mut [u8]) -> Result<usize, io::Error>
+    ensures { IfOk result (λ n. n ≤ length buffer.old) }
+{
+    let mut n = 0;
+    while n < buffer.len() {
+        let k = rt.stdin().read(&mut buffer[n..])?;
+        if k == 0 {
+            break;
+        }
+        n += k;
+    }
+    Ok(n)
+}
+
+// The buffer has one byte more than the longest file, so that a longer one is refused.
 fn list_input(rt: &HostRuntime) {
-    let mut file = Vec::new(rt.alloc());
-    match rt.stdin().take(1537).read_to_end(&mut file) {
-        Ok(_) => list(rt, file.as_slice()),
+    let mut file = [0u8; 1537];
+    match read_bytes(rt, &mut file) {
+        Ok(n) => list(rt, &file[..n]),
         Err(error) => fail(rt, "listing: read", &error),
     }
 }

@@ -7,7 +7,7 @@ use native.Mathlib.Omega.{arith}
 use lib.ListN.{length, take, drop, take-append-drop, length-append, length-drop}
 use lib.Seq.{take_at, drop_at, drop-drop, length-take-le}
 use Rattle.listing_text.specs.declared.Page.{Page}
-use Rattle.listing_text.specs.Writing.{Room, Put}
+use Rattle.listing_text.specs.Writing.{RoomFor, Put}
 
 put_none : (p : Page) → Put [] p p
 put_none p = record {
@@ -16,7 +16,7 @@ put_none p = record {
   same = refl;
 }
 
-module _ {x : List ℕ} {p q : Page} (w : Put x p q) (room : Room x p) where
+module _ {x : List ℕ} {p q : Page} (w : Put x p q) (room : RoomFor x p) where
   front-length : length (take p.at p.out.now) ≡ p.at
   front-length = length-take-le p.at p.out.now (omega arith)
 
@@ -56,10 +56,10 @@ pub record Begun (text rest : List ℕ) (p q : Page) : Type 0 where
   pub written : List ℕ
   pub front : text ≡ written ++ rest
   pub put : Put written p q
-  pub room : Room text p
+  pub room : RoomFor text p
 
 -- nothing yet
-pub begin : {text : List ℕ} {p : Page} → Room text p → Begun text text p p
+pub begin : {text : List ℕ} {p : Page} → RoomFor text p → Begun text text p p
 begin {p = p} h = record { written = []; front = refl; put = put_none p; room = h }
 
 module _ {text : List ℕ} {p q : Page} where
@@ -67,11 +67,11 @@ module _ {text : List ℕ} {p q : Page} where
     parts : length text ≡ length w.written + (length x + length rest)
     parts = omega (arith, ap length w.front, length-append w.written (x ++ rest), length-append x rest)
 
-    front-room : Room w.written p
+    front-room : RoomFor w.written p
     front-room = omega (arith, w.room, parts)
 
     -- there is room for the next part
-    pub fits : Room x q
+    pub fits : RoomFor x q
     fits = omega (arith, w.room, parts, w.put.at, put_length w.put front-room)
 
     -- and it is written
@@ -92,7 +92,7 @@ module _ {text : List ℕ} {p q : Page} (x : List ℕ) (w : Begun text x p q) wh
   ends : Begun text (x ++ []) p q
   ends = subst (λ l. Begun text l p q) (sym (append-nil x)) w
 
-  pub fits_last : Room x q
+  pub fits_last : RoomFor x q
   fits_last = fits x [] ends
 
   pub last : {r : Page} → Put x q r → Put text p r

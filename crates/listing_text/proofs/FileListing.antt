@@ -22,7 +22,7 @@ use Rattle.model.proofs.Files.{accepted-file}
 use Rattle.model.proofs.RoundTrips.{opens_read, callouts_read, opens-room, callouts-room}
 use Rattle.model.proofs.ListingLength.{listing-length}
 use Rattle.listing_text.specs.declared.Page.{Page}
-use Rattle.listing_text.specs.Writing.{Room, Put, Wrote}
+use Rattle.listing_text.specs.Writing.{RoomFor, Put, Wrote}
 use Rattle.listing_text.proofs.FirstSteps.{refused_is}
 
 -- 64 words are enough for any file
@@ -46,6 +46,10 @@ text_is file = refl
 pub listing_room : (file : List ℕ) (page : List ℕ) → 8 + 1000 * 203 + 10 ≤ length page → 0 + length (listing_text Edition.One file) ≤ length page
 listing_room file page h = omega (arith, listing-length Edition.One file)
 
+-- a copy of bytes over the front writes them
+pub copy_wrote : (word : List ℕ) {old part : List ℕ} → part ≡ word → Wrote word old (part ++ drop (length word) old) (length word)
+copy_wrote word {old} e = record { bytes = ap (◌++ drop (length word) old) e; size = refl }
+
 -- a page of which nothing was written
 pub put_wrote : (text : List ℕ) (p q : Page) → p.at ≡ 0 → Put text p q → Wrote text p.out.now q.out.now q.at
 put_wrote text p q z w =
@@ -56,7 +60,7 @@ put_wrote text p q z w =
     }
 
 module _ (file : List ℕ) (r : ReadAnswer) (read : r ≡ read_answer Edition.One file 64 64) (p : Page)
-    (room : Room (listing_text Edition.One file) p) where
+    (room : RoomFor (listing_text Edition.One file) p) where
   code_is : r.code ≡ file_code Edition.One file
   code_is = ap (λ (x : ReadAnswer). x.code) read ∙ read-code Edition.One file 64 64 ∙ all_read file
 
@@ -64,7 +68,7 @@ module _ (file : List ℕ) (r : ReadAnswer) (read : r ≡ read_answer Edition.On
     refused_text : listing_text Edition.One file ≡ number_line refused_word r.code
     refused_text = text_is file ∙ sym (refused-answer r.code (file_code Edition.One file) d (sym code_is) refused_line _) ∙ refused_is r.code
 
-    pub refusal_fits : Room (number_line refused_word r.code) p
+    pub refusal_fits : RoomFor (number_line refused_word r.code) p
     refusal_fits = rw refused_text at room
 
     pub refusal_written : {q : Page} → Put (number_line refused_word r.code) p q → Put (listing_text Edition.One file) p q
@@ -109,7 +113,7 @@ module _ (file : List ℕ) (r : ReadAnswer) (read : r ≡ read_answer Edition.On
         ∙ sym (ap₂ (λ n m. listing_of n callouts (plans m opens)) items_are slots_are
         ∙ ap₂ (λ x y. listing_of (items_in file) y (plans (slots_in Edition.One file) x)) opens_are callouts_are)
 
-    pub rota_fits : Room (listing_of (length opens) callouts (plans (length opens) opens)) p
+    pub rota_fits : RoomFor (listing_of (length opens) callouts (plans (length opens) opens)) p
     rota_fits = rw rota_text at room
 
     pub rota_written : {q : Page} → Put (listing_of (length opens) callouts (plans (length opens) opens)) p q

@@ -13,7 +13,7 @@ use Rattle.model.specs.ListingText.{refused_word, rota_word, number_line, refuse
 use Rattle.rota.specs.declared.lister.Stepped.{Stepped}
 use Rattle.rota.specs.Step.{step_of}
 use Rattle.listing_text.specs.declared.Page.{Page}
-use Rattle.listing_text.specs.Writing.{Room, Put, fresh, first_step, after_first}
+use Rattle.listing_text.specs.Writing.{RoomFor, Put, fresh, first_step, after_first}
 use Rattle.listing_text.proofs.Begun.{Begun, begin}
 use Rattle.listing_text.proofs.PlansGiven.{answer_of, next-plan, no-plan, all_listed}
 
@@ -51,7 +51,7 @@ module _ (opens callouts : List ℕ) (ok : table_code (length opens) (length ope
           ap (listing_of (length opens) callouts) none ∙ listing_none (length opens) callouts ∙ refused_is 9
           ∙ ap (number_line refused_word) (sym (code_is ∙ none_code none))
 
-      pub refused-fits : (p : Page) → Room (listing_of (length opens) callouts all) p → Room (number_line refused_word s.answer.code) p
+      pub refused-fits : (p : Page) → RoomFor (listing_of (length opens) callouts all) p → RoomFor (number_line refused_word s.answer.code) p
       refused-fits p room = rw refused_text at room
 
       pub refused-written : {p q : Page} → Put (number_line refused_word s.answer.code) p q → Put (listing_of (length opens) callouts all) p q
@@ -64,6 +64,6 @@ module _ (opens callouts : List ℕ) (ok : table_code (length opens) (length ope
           ap (listing_of (length opens) callouts) next.first ∙ listing-some (length opens) callouts next.plan next.others
           ∙ ap (λ l. number_line rota_word (length opens) ++ (plan_lines callouts 1 (take 1000 l) ++ last_line (length l))) (sym next.first)
 
-      pub rota_begun : (p : Page) → Room (listing_of (length opens) callouts all) p
+      pub rota_begun : (p : Page) → RoomFor (listing_of (length opens) callouts all) p
           → Begun (listing_of (length opens) callouts all) (number_line rota_word (length opens) ++ after_first opens callouts) p p
       rota_begun p room = rw rota_text (begin (rw rota_text at room))

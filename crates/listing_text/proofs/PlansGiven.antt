@@ -24,7 +24,7 @@ use Rattle.model.proofs.Listing.{plans_listed}
 use Rattle.rota.specs.declared.lister.Stepped.{Stepped}
 use Rattle.rota.specs.Step.{step_of}
 use Rattle.listing_text.specs.declared.Page.{Page}
-use Rattle.listing_text.specs.Writing.{Room, Put, end_or_more, fresh, first_step, after_first}
+use Rattle.listing_text.specs.Writing.{RoomFor, Put, end_or_more, fresh, first_step, after_first}
 use Rattle.listing_text.proofs.Begun.{Begun, begin, fits, more}
 
 -- ---- what is left to write after k plans
@@ -90,7 +90,7 @@ module _ (opens callouts : List ℕ) (ok : table_code (length opens) (length ope
   pub all_listed : IsListing (answer_of opens callouts) fresh (plans (length opens) opens)
   all_listed = ((plans_listed (length opens) (length opens) opens callouts ok).listing fresh refl (plans (length opens) opens)).1 refl
 
-  pub given-none : {p : Page} → Room (after_first opens callouts) p → {s : Stepped} → s ≡ first_step opens callouts → Given opens callouts p p s 0
+  pub given-none : {p : Page} → RoomFor (after_first opens callouts) p → {s : Stepped} → s ≡ first_step opens callouts → Given opens callouts p p s 0
   given-none room q =
       let all = plans (length opens) opens in
       record {
@@ -161,7 +161,7 @@ module _ {opens callouts : List ℕ} {p q : Page} {s : Stepped} {k : ℕ} (g : G
           ∙ ap₂ (λ j r. plan_line callouts j r ++ left_after callouts (suc k) next.others) (sym (add-one k)) same)
           g.begun
 
-      pub line-fits : Room (plan_line callouts (k + 1) slots) q
+      pub line-fits : RoomFor (plan_line callouts (k + 1) slots) q
       line-fits = fits (plan_line callouts (k + 1) slots) (left_after callouts (suc k) next.others) line-next
 
       pub given-more : {r : Page} → Put (plan_line callouts (k + 1) slots) q r → {s' : Stepped}

@@ -8,8 +8,8 @@ use Rattle.rota.specs.declared.lister.Stepped.{Stepped}
 use Rattle.rota.specs.Step.{step_of}
 
 -- the page has room for a text
-abbrev pub Room : List ℕ → Page → Type 0
-Room text p = p.at + length text ≤ length p.out.now
+abbrev pub RoomFor : List ℕ → Page → Type 0
+RoomFor text p = p.at + length text ≤ length p.out.now
 
 -- a text is written behind what page p had, the bytes behind it are as they were, and it is the same loan
 pub record Put (text : List ℕ) (p q : Page) : Type 0 where

@@ -9,7 +9,7 @@ ghost use Rattle.model.specs.Rota.{table_code};
 ghost use Rattle.model.specs.Plans.{plans};
 ghost use Rattle.model.specs.Decimal.{decimal};
 ghost use Rattle.model.specs.ListingText.{number_line, slot_text, plan_line, listing_of, listing_text};
-ghost use Rattle.listing_text.specs.Writing.{Room, Put, Wrote, end_or_more, first_step, after_first};
+ghost use Rattle.listing_text.specs.Writing.{RoomFor, Put, Wrote, end_or_more, first_step, after_first};
 
 use model::{Lister, Plan};
 use rota::lister::Stepped;
@@ -26,7 +26,7 @@ struct Page<'a> {
 
 impl Page<'_> {
     fn byte(&mut self, b: u8)
-        requires { Room (b ∷ []) self.old }
+        requires { RoomFor (b ∷ []) self.old }
         ensures { Put (b ∷ []) self.old self.new }
     {
         self.out[self.at] = b;
@@ -34,7 +34,7 @@ impl Page<'_> {
     }
 
     fn text(&mut self, word: &[u8])
-        requires { Room word.now self.old }
+        requires { RoomFor word.now self.old }
         ensures { Put word.now self.old self.new }
     {
         let end = self.at + word.len();
@@ -44,18 +44,19 @@ impl Page<'_> {
 
     // The digits of a number.
     fn number(&mut self, x: u64)
-        requires { Room (decimal x) self.old }
+        requires { RoomFor (decimal x) self.old }
         ensures { Put (decimal x) self.old self.new }
     {
-        if x >= 10 {
-            self.number(x / 10);
+        if x < 10 {
+            return self.byte(b'0' + x as u8);
         }
+        self.number(x / 10);
         self.byte(b'0' + (x % 10) as u8);
     }
 
     // A line that is a word and a number.
     fn line(&mut self, word: &[u8], x: u64)
-        requires { Room (number_line word.now x) self.old }
+        requires { RoomFor (number_line word.now x) self.old }
         ensures { Put (number_line word.now x) self.old self.new }
     {
         self.text(word);
@@ -65,7 +66,7 @@ impl Page<'_> {
 
     // A space and a slot.
     fn slot(&mut self, j: u8)
-        requires { Room (slot_text j) self.old }
+        requires { RoomFor (slot_text j) self.old }
         ensures { Put (slot_text j) self.old self.new }
     {
         self.byte(b' ');
@@ -74,7 +75,7 @@ impl Page<'_> {
 
     // The slots of a plan.
     fn slots(&mut self, plan: &[u8])
-        requires { Room (flat_map slot_text plan.now) self.old }
+        requires { RoomFor (flat_map slot_text plan.now) self.old }
         ensures { Put (flat_map slot_text plan.now) self.old self.new }
     {
         for j in plan {
@@ -84,7 +85,7 @@ impl Page<'_> {
 
     // The line of the plan at position k.
     fn plan_line(&mut self, callouts: &[u64], k: u64, plan: [u8; 64])
-        requires { (length callouts.now ≤ 64) × Room (plan_line callouts.now k plan) self.old }
+        requires { (length callouts.now ≤ 64) × RoomFor (plan_line callouts.now k plan) self.old }
         ensures { Put (plan_line callouts.now k plan) self.old self.new }
     {
         self.number(k);
@@ -95,7 +96,7 @@ impl Page<'_> {
 
     // The last line, after k plans, by the code of the step after them, as the definition has it.
     fn last_line(&mut self, k: u64, code: u32)
-        requires { Room (end_or_more k code) self.old }
+        requires { RoomFor (end_or_more k code) self.old }
         ensures { Put (end_or_more k code) self.old self.new }
     {
         if code == 0 {
@@ -108,7 +109,7 @@ impl Page<'_> {
     // The lines after the first: those of the plans, 1,000 at most, and the last one.
     fn plan_lines(&mut self, first: Stepped, opens: &[u64], callouts: &[u64])
         requires { (table_code (length opens.now) (length opens.now) opens.now callouts.now ≡ 0) × (first ≡ first_step opens.now callouts.now)
-            × Room (after_first opens.now callouts.now) self.old }
+            × RoomFor (after_first opens.now callouts.now) self.old }
         ensures { Put (after_first opens.now callouts.now) self.old self.new }
     {
         let mut s = first;
@@ -125,7 +126,7 @@ impl Page<'_> {
     // The listing of a rota. The first line waits for the first plan, since a refusal stands alone.
     fn rota(&mut self, opens: &[u64], callouts: &[u64])
         requires { (table_code (length opens.now) (length opens.now) opens.now callouts.now ≡ 0)
-            × Room (listing_of (length opens.now) callouts.now (plans (length opens.now) opens.now)) self.old }
+            × RoomFor (listing_of (length opens.now) callouts.now (plans (length opens.now) opens.now)) self.old }
         ensures { Put (listing_of (length opens.now) callouts.now (plans (length opens.now) opens.now)) self.old self.new }
     {
         let fresh = Lister {
@@ -144,7 +145,7 @@ impl Page<'_> {
 
     // The listing of any bytes as a rota file, over fixed tables (no heap).
     fn listing(&mut self, file: &[u8])
-        requires { Room (listing_text Edition.One file.now) self.old }
+        requires { RoomFor (listing_text Edition.One file.now) self.old }
         ensures { Put (listing_text Edition.One file.now) self.old self.new }
     {
         let mut opens = [0u64; 64];

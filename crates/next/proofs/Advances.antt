@@ -57,6 +57,9 @@ pub record Trying (w g o p : List ℕ) (f fixed after x : ℕ) : Type 0 where
   pub later : LaterWithin w x after
   pub stuck : (y : ℕ) → x < y → y < length w → (q : List ℕ) → IsPlan w q → SameTo q g y → at q y ≤ at g y
 
+pub advancing_slot : {w g o p : List ℕ} {f fixed after i : ℕ} → Advancing w g o p f fixed after i → 0 < i → at g (i - 1) < 64
+advancing_slot {i} A some = (A.before.complete.all (i - 1) (omega (arith, A.within))).slot
+
 pub advancing_trying : {w g o p : List ℕ} {f fixed after i s fixed' : ℕ} → Advancing w g o p f fixed after i → 0 < i → s ≡ at p (i - 1)
     → fixed' ≡ without fixed s → Trying w g o p f fixed' after (i - 1)
 advancing_trying {w} {g} {o} {fixed} {i} A some es ek =
@@ -113,6 +116,9 @@ module _ {w g o p : List ℕ} {f fixed after x : ℕ} (T : Trying w g o p f fixe
   module _ {o' p' : List ℕ} {f' k : ℕ} (L : Lowered w o x (above w p x) fixed o' p' f' k) where
     M : Lowered w o x (above w g x) fixed o' p' f' k
     M = rw T.slots at L
+
+    pub trying_below : k < 64
+    trying_below = omega (arith, M.slot, (M.complete.all x T.known).slot)
 
     pub trying_settleable : {fixed₂ : ℕ} → fixed₂ ≡ with fixed k → Settleable w o' p' f' (x + 1) fixed₂
     trying_settleable e = record { before = prefix_next T.before T.known (lowered_shifted M) e; within = omega (arith, T.known) }

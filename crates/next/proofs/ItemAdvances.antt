@@ -55,6 +55,9 @@ module _ {w o p : List ℕ} {f x fixed hit may : ℕ} (R : Rising w o p f x fixe
   pub rising_vacant : UnheldIn o p f (bit_and (get_or w x 0) may) (bit_and hit may)
   rising_vacant = unheld_part may R.hit_is
 
+  pub rising-below : {o₁ o₂ p₂ : List ℕ} {f₂ j : ℕ} → Lowered w o₁ x may fixed o₂ p₂ f₂ j → j < 64
+  rising-below L = omega (arith, L.slot, (L.complete.all x R.fixed_held.known).slot)
+
   pub rising_lowered : {o₂ p₂ : List ℕ} {f₂ j : ℕ} → Lowered w o x may fixed o₂ p₂ f₂ j → Lowered w o x (above w p x) fixed o₂ p₂ f₂ j
   rising_lowered L = rw R.may_is at L
 

@@ -17,6 +17,7 @@ use Rattle.model.specs.Rota.{table_code}
 use Rattle.model.proofs.Accepted.{tables-from}
 use Rattle.model.proofs.Editions.{slots-few}
 use Rattle.model.proofs.Files.{accepted-file}
+use Rattle.model.proofs.Parts.{copied}
 use Rattle.model.proofs.Refusals.{goes_on, neither_refuses, room_enough, room-short, refused-answer, accepted-answer, nothing_written}
 use Rattle.min_cost.specs.Dual.{Square}
 use Rattle.min_cost.proofs.Squares.{squared}
@@ -26,6 +27,10 @@ use Rattle.file_reading.proofs.Rotas.{opens_are, callouts_are}
 use Rattle.rota.proofs.TableCalls.{Passed, first_found, next_found, fewest_found}
 
 -- ---- a plan's record in the first 64 bytes of a buffer
+
+-- 64 bytes copied over 64
+pub copied_64 : (s d : List ℕ) → length s ≡ 64 → length d ≤ 64 → take (length s) s ++ drop (length s) d ≡ s
+copied_64 s d e h = copied (length s) s d refl (omega arith)
 
 pub plan-stored : (code : ℕ) (s old x : List ℕ) → code ≡ 0 → x ≡ s → length s ≡ 64 → x ++ drop 64 old ≡ written code s old
 unfolding written

@@ -2,7 +2,7 @@
 ghost use Rattle.std.specs.Prelude.{◌≡◌, length};
 ghost use Rattle.model.specs.CountAnswers.{count_answer, count_tally};
 
-use acceptance::Tables;
+use acceptance::CallTables;
 use answers::{Answer, FigureAnswer};
 use model::CountAnswer;
 
@@ -11,7 +11,7 @@ pub fn rota_count_plans(n: usize, opens: &[u64], callouts: &[u64], tally: &mut [
     ensures answer { result ≡ count_answer n n opens.now callouts.now (length tally.old) }
     ensures tally { tally.new ≡ count_tally n n opens.now callouts.now tally.old }
 {
-    let tables = Tables {
+    let tables = CallTables {
         n,
         m: n,
         opens,

@@ -5,7 +5,7 @@ ghost use Rattle.model.specs.Refusal.{code_of, written};
 ghost use Rattle.model.specs.File.{items_in, opens_in, callouts_in, blocks_for, file_bytes};
 ghost use Rattle.model.specs.FileAnswers.{read_code, read_answer, read_opens, read_callouts, write_code, write_answer, write_file};
 
-use acceptance::Tables;
+use acceptance::CallTables;
 use answers::{Answer, FigureAnswer};
 use model::{Edition, ReadAnswer, Refusal, WriteAnswer};
 
@@ -43,7 +43,7 @@ fn write(n: usize, opens: &[u64], callouts: &[u64], file: &mut [u8]) -> Result<u
     ensures bytes { IfOk result (λ k. k ≡ 512 * blocks_for n) }
     ensures file { file.new ≡ written (code_of result) (file_bytes Edition.One n n opens.now callouts.now) file.old }
 {
-    let tables = Tables {
+    let tables = CallTables {
         n,
         m: n,
         opens,

@@ -2,7 +2,7 @@
 ghost use Rattle.std.specs.Prelude.{◌≡◌, length};
 ghost use Rattle.model.specs.NumberAnswers.{plan_at_answer, plan_at_tally, plan_number_answer, plan_number_tally};
 
-use acceptance::Tables;
+use acceptance::CallTables;
 use answers::{Answer, FigureAnswer};
 use model::{NumberAnswer, Plan, PlanAnswer, Refusal};
 
@@ -17,7 +17,7 @@ pub fn rota_plan_at(
     ensures answer { result ≡ plan_at_answer n n opens.now callouts.now k (length tally.old) }
     ensures tally { tally.new ≡ plan_at_tally n n opens.now callouts.now k tally.old }
 {
-    let tables = Tables {
+    let tables = CallTables {
         n,
         m: n,
         opens,
@@ -44,7 +44,7 @@ pub fn rota_plan_number(
     ensures answer { result ≡ plan_number_answer n n opens.now callouts.now given (length tally.old) }
     ensures tally { tally.new ≡ plan_number_tally n n opens.now callouts.now given tally.old }
 {
-    let tables = Tables {
+    let tables = CallTables {
         n,
         m: n,
         opens,

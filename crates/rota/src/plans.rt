@@ -2,7 +2,7 @@
 ghost use Rattle.std.specs.Prelude.{◌≡◌};
 ghost use Rattle.model.specs.PlanAnswers.{first_answer, next_answer, fewest_answer, cell_answer};
 
-use acceptance::Tables;
+use acceptance::CallTables;
 use answers::Answer;
 use model::{Plan, PlanAnswer};
 
@@ -10,7 +10,7 @@ use model::{Plan, PlanAnswer};
 pub fn rota_first_plan(n: usize, opens: &[u64], callouts: &[u64]) -> PlanAnswer
     ensures { result ≡ first_answer n n opens.now callouts.now }
 {
-    let tables = Tables {
+    let tables = CallTables {
         n,
         m: n,
         opens,
@@ -26,7 +26,7 @@ pub fn rota_first_plan(n: usize, opens: &[u64], callouts: &[u64]) -> PlanAnswer
 pub fn rota_next_plan(n: usize, opens: &[u64], callouts: &[u64], given: Plan) -> PlanAnswer
     ensures { result ≡ next_answer n n opens.now callouts.now given }
 {
-    let tables = Tables {
+    let tables = CallTables {
         n,
         m: n,
         opens,
@@ -42,7 +42,7 @@ pub fn rota_next_plan(n: usize, opens: &[u64], callouts: &[u64], given: Plan) ->
 pub fn rota_fewest_callouts(n: usize, opens: &[u64], callouts: &[u64], cap: u32) -> PlanAnswer
     ensures { result ≡ fewest_answer n n opens.now callouts.now cap }
 {
-    let tables = Tables {
+    let tables = CallTables {
         n,
         m: n,
         opens,
@@ -64,7 +64,7 @@ pub fn rota_cell_plan(
 ) -> PlanAnswer
     ensures { result ≡ cell_answer n n opens.now callouts.now item slot }
 {
-    let tables = Tables {
+    let tables = CallTables {
         n,
         m: n,
         opens,

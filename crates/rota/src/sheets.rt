@@ -2,7 +2,7 @@
 ghost use Rattle.std.specs.Prelude.{◌≡◌, length};
 ghost use Rattle.model.specs.SheetAnswers.{sheet_code, sheet_after};
 
-use acceptance::Tables;
+use acceptance::CallTables;
 use model::{Plan, Refusal};
 
 // Writes the sheet of the given plan into a lent page. The plan is tested before a byte is written, so a refusal leaves the page as it was.
@@ -16,7 +16,7 @@ pub fn rota_plan_sheet(
     ensures code { result ≡ sheet_code n n opens.now callouts.now given (length page.old) }
     ensures page { page.new ≡ sheet_after n n opens.now callouts.now given page.old }
 {
-    let tables = Tables {
+    let tables = CallTables {
         n,
         m: n,
         opens,

@@ -2,7 +2,7 @@
 ghost use Rattle.std.specs.Prelude.{◌≡◌, length};
 ghost use Rattle.model.specs.UsableAnswers.{usable_code, usable_after};
 
-use acceptance::Tables;
+use acceptance::CallTables;
 use model::Refusal;
 
 // Writes the n words of the usable table.
@@ -10,7 +10,7 @@ pub fn rota_usable_slots(n: usize, opens: &[u64], callouts: &[u64], usable: &mut
     ensures code { result ≡ usable_code n n opens.now callouts.now (length usable.old) }
     ensures usable { usable.new ≡ usable_after n n opens.now callouts.now usable.old }
 {
-    let tables = Tables {
+    let tables = CallTables {
         n,
         m: n,
         opens,

@@ -4,54 +4,51 @@
 #![tactic(auto)]
 
 use rota::{counting, plans, pricing, untallied};
-use std::fmt;
+use std::fmt::Display;
+use std::io::Print;
 
-// A plan's slots, a space before each.
-#[derive(Drop)]
-struct Slots([u8; 64]);
-
-impl fmt::Display for Slots {
-    fn fmt<W: fmt::Write>(&self, f: &mut fmt::Formatter<W>) -> fmt::Result {
-        for j in &self.0 {
-            write!(f, " {j}")?;
-        }
-        Ok(())
-    }
+// One part of a line, by a write of its own. Where writing fails the program goes on.
+fn put<T: Display + Drop>(rt: &HostRuntime, part: T) {
+    let _ = rt.print(part);
 }
 
-// Where writing fails the program goes on.
 fn first_plan(rt: &HostRuntime, row: &str, opens: &[u64], callouts: &[u64]) {
     let a = plans::rota_first_plan(opens.len(), opens, callouts);
-    let _ = if a.code == 0 {
-        println!(rt; "{row}: {}, plan{}", a.code, Slots(a.plan.slots))
-    } else {
-        println!(rt; "{row}: {}", a.code)
-    };
+    put(rt, row);
+    put(rt, a.code);
+    if a.code == 0 {
+        put(rt, ", plan");
+        for slot in &a.plan.slots {
+            put(rt, " ");
+            put(rt, *slot);
+        }
+    }
+    put(rt, "\n");
 }
 
 fn all_open(rt: &HostRuntime) {
     let opens = [u64::MAX; 64];
     let callouts = [0u64; 64];
-    first_plan(rt, "n = 64, all bits set", &opens, &callouts);
+    first_plan(rt, "n = 64, all bits set: ", &opens, &callouts);
 }
 
 fn items_65(rt: &HostRuntime) {
     let opens = [1u64; 65];
     let callouts = [0u64; 65];
-    first_plan(rt, "n = 65", &opens, &callouts);
+    first_plan(rt, "n = 65: ", &opens, &callouts);
 }
 
 fn items_0(rt: &HostRuntime) {
     let opens = [0u64; 0];
     let callouts = [0u64; 0];
-    first_plan(rt, "n = 0", &opens, &callouts);
+    first_plan(rt, "n = 0: ", &opens, &callouts);
 }
 
 fn slot_63_of_63(rt: &HostRuntime) {
     let mut opens = [1u64; 63];
     opens[62] = 1 << 63;
     let callouts = [0u64; 63];
-    first_plan(rt, "n = 63, bit 63 open", &opens, &callouts);
+    first_plan(rt, "n = 63, bit 63 open: ", &opens, &callouts);
 }
 
 fn items_21(rt: &HostRuntime) {
@@ -59,7 +56,9 @@ fn items_21(rt: &HostRuntime) {
     let callouts = [0u64; 21];
     let mut tally = [0u64; 1];
     let a = counting::rota_count_plans(21, &opens, &callouts, &mut tally);
-    let _ = println!(rt; "n = 21, count: {}", a.code);
+    put(rt, "n = 21, count: ");
+    put(rt, a.code);
+    put(rt, "\n");
 }
 
 // Count, grade and the price of 100 vehicles; grade and price again with no tally.
@@ -71,40 +70,47 @@ fn graded(rt: &HostRuntime, row: &str, opens: &[u64], callouts: &[u64]) {
     let c = pricing::rota_monthly_price(n, opens, callouts, 100, &mut tally);
     let d = untallied::rota_grade_untallied(n, opens, callouts);
     let e = untallied::rota_monthly_price_untallied(n, opens, callouts, 100);
-    let _ = println!(rt;
-        "{row}: {} plans, grade {}, price {}; no tally: grade {}, price {}",
-        a.count, b.grade, c.cents, d.grade, e.cents
-    );
+    put(rt, row);
+    put(rt, a.count);
+    put(rt, " plans, grade ");
+    put(rt, b.grade);
+    put(rt, ", price ");
+    put(rt, c.cents);
+    put(rt, "; no tally: grade ");
+    put(rt, d.grade);
+    put(rt, ", price ");
+    put(rt, e.cents);
+    put(rt, "\n");
 }
 
 // Without a brittle item; with a further item that is brittle since the other items need its other slot.
 fn plans_999(rt: &HostRuntime) {
     let opens = [7u64, 23, 147, 159, 222, 127, 254, 255];
     let callouts = [0u64; 8];
-    graded(rt, "no brittle item", &opens, &callouts);
+    graded(rt, "no brittle item: ", &opens, &callouts);
     let opens = [7u64, 23, 147, 159, 222, 127, 254, 255, 257];
     let callouts = [0u64; 9];
-    graded(rt, "item 8 brittle", &opens, &callouts);
+    graded(rt, "item 8 brittle: ", &opens, &callouts);
 }
 
 // The further item is brittle since the others need all of its slots but one, which is a callout.
 fn plans_1000(rt: &HostRuntime) {
     let opens = [120u64, 115, 124, 63, 95, 111, 127];
     let callouts = [0u64; 7];
-    graded(rt, "no brittle item", &opens, &callouts);
+    graded(rt, "no brittle item: ", &opens, &callouts);
     let opens = [120u64, 115, 124, 63, 95, 111, 127, 255];
     let callouts = [0u64, 0, 0, 0, 0, 0, 0, 128];
-    graded(rt, "item 7 brittle, by a callout", &opens, &callouts);
+    graded(rt, "item 7 brittle, by a callout: ", &opens, &callouts);
 }
 
 // The further item is brittle by its one open slot.
 fn plans_1001(rt: &HostRuntime) {
     let opens = [120u64, 115, 126, 87, 95, 111, 127];
     let callouts = [0u64; 7];
-    graded(rt, "no brittle item", &opens, &callouts);
+    graded(rt, "no brittle item: ", &opens, &callouts);
     let opens = [128u64, 120, 115, 126, 87, 95, 111, 127];
     let callouts = [0u64; 8];
-    graded(rt, "item 0 brittle", &opens, &callouts);
+    graded(rt, "item 0 brittle: ", &opens, &callouts);
 }
 
 fn main(rt: HostRuntime) {

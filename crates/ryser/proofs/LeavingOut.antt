@@ -8,7 +8,7 @@ use Rattle.model.specs.Lists.{any}
 use Rattle.model.specs.Ryser.{set_product}
 use Rattle.ryser.specs.Bytes.{bytes, multiplied, some_zero}
 use Rattle.ryser.specs.declared.Sums.{Sums}
-use Rattle.ryser.specs.RowSums.{row_sum, row_sums, sums_of, less, no_sums, full, Within, SmallSums, terms, IsSum, Underway, SignedSum}
+use Rattle.ryser.specs.RowSums.{row_sum, row_sums, sums_of, less, no_sums, full, WithinSums, SmallSums, terms, IsSum, Underway, SignedSum}
 use Rattle.ryser.proofs.RowSums.{sums_bytes, sums_small, sums_rest, column_within, sums_product}
 use Rattle.ryser.proofs.Terms.{lows-fewer, lows-without, terms-none, terms_step, terms-zero, signed_turn}
 
@@ -31,7 +31,7 @@ module _ {columns : List Sums} {j : ℕ} {s : Sums} (u : Underway columns j s) w
     pub rest_is : less s (get_or columns k no_sums) ≡ sums_of u.opens (without u.set k)
     rest_is = rw (u.are, u.table k l) (sums_rest u.opens u.set k (u.lows k l))
 
-    pub within : Within (get_or columns k no_sums) s
+    pub within : WithinSums (get_or columns k no_sums) s
     within = rw (u.are, u.table k l) (column_within u.opens u.set k (u.lows k l))
 
     abbrev pub left_out : Underway columns k (less s (get_or columns k no_sums))

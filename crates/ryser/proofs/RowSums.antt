@@ -13,7 +13,7 @@ use Rattle.words.proofs.OneMore.{ones-and_single}
 use Rattle.model.specs.Ryser.{set_product}
 use Rattle.ryser.specs.Bytes.{packed, bytes, multiplied, Small}
 use Rattle.ryser.specs.declared.Sums.{Sums}
-use Rattle.ryser.specs.RowSums.{row_sum, row_sums, column, sums_of, column_of, less, Within}
+use Rattle.ryser.specs.RowSums.{row_sum, row_sums, column, sums_of, column_of, less, WithinSums}
 use Rattle.ryser.proofs.Bytes.{packed-add, packed_lt, bytes_packed}
 
 -- a row's sum, and beyond the items
@@ -59,7 +59,7 @@ sums_single opens j k =
     sums_less opens (2 ^ j) j (bit_single j) k ∙ ap (λ s. row_sums opens s k + column opens j k) none
 
 -- the same of the three words
-pub column_within : (opens : List ℕ) (set j : ℕ) → bit set j ≡ 1 → Within (column_of opens j) (sums_of opens set)
+pub column_within : (opens : List ℕ) (set j : ℕ) → bit set j ≡ 1 → WithinSums (column_of opens j) (sums_of opens set)
 column_within opens set j e =
     let of = sums_less opens set j e in
     (omega (arith, of 0), omega (arith, of 1), omega (arith, of 2))
@@ -70,7 +70,7 @@ sums_rest opens set j e =
     record_eq (omega (arith, of 0)) (omega (arith, of 1)) (omega (arith, of 2))
 
 pub column_alone : (opens : List ℕ) (j : ℕ)
-    → Within (sums_of opens 0) (sums_of opens (2 ^ j)) × (less (sums_of opens (2 ^ j)) (sums_of opens 0) ≡ column_of opens j)
+    → WithinSums (sums_of opens 0) (sums_of opens (2 ^ j)) × (less (sums_of opens (2 ^ j)) (sums_of opens 0) ≡ column_of opens j)
 column_alone opens j = (
   (omega (arith, sums_single opens j 0), omega (arith, sums_single opens j 1), omega (arith, sums_single opens j 2)),
   record_eq (omega (arith, sums_single opens j 0)) (omega (arith, sums_single opens j 1)) (omega (arith, sums_single opens j 2)),

@@ -31,8 +31,8 @@ column_of opens j = record { first = column opens j 0; second = column opens j 1
 abbrev pub less : Sums → Sums → Sums
 less s c = record { first = s.first - c.first; second = s.second - c.second; third = s.third - c.third }
 
-abbrev pub Within : Sums → Sums → Type 0
-Within c s = (c.first ≤ s.first) × (c.second ≤ s.second) × (c.third ≤ s.third)
+abbrev pub WithinSums : Sums → Sums → Type 0
+WithinSums c s = (c.first ≤ s.first) × (c.second ≤ s.second) × (c.third ≤ s.third)
 
 -- no sum is above 20
 abbrev pub SmallSums : Sums → Type 0

@@ -5,7 +5,7 @@
 ghost use Rattle.std.specs.Prelude.{◌≡◌, ◌+◌, ◌*◌, ◌%◌, ◌^◌, ◌<◌, ◌≤◌, not, length};
 ghost use Rattle.model.specs.Count.{count};
 ghost use Rattle.ryser.specs.Bytes.{bytes, multiplied, quad, some_zero, Small, SmallQuad};
-ghost use Rattle.ryser.specs.RowSums.{row_sum, row_sums, sums_of, column_of, less, full, Within, SmallSums, Underway, SignedSum};
+ghost use Rattle.ryser.specs.RowSums.{row_sum, row_sums, sums_of, column_of, less, full, WithinSums, SmallSums, Underway, SignedSum};
 
 // How many slots of the set are open to item i; beyond the items 1, which no product sees.
 #[tactic(auto, unfolding(crate::specs::RowSums::row_sum))]
@@ -79,7 +79,7 @@ impl Sums {
 
     // The sums less what a slot adds to them.
     fn minus(self, column: Sums) -> Sums
-        requires { Within column self }
+        requires { WithinSums column self }
         ensures { result ≡ less self column }
     {
         Sums {

@@ -1,6 +1,6 @@
 -- No block yet, one block more, and all of them. Assumes nothing.
 use Rattle.std.proofs.Common.{◌∙◌, ap, arith}
-use Rattle.file_blocks.proofs.Checking.{left_all, left_more, all-checked}
+use Rattle.file_blocks.proofs.Checking.{Checking, left_all, left_more, all-checked}
 use Rattle.file_blocks.proofs.reader.check_blocks.Goals as goal
 
 pub loop-init : goal.loop-init
@@ -13,11 +13,17 @@ loop-init c = record {
 pub loop-preserved : goal.loop-preserved
 loop-preserved c =
     let i = c.loop.invariant in
+    let t : Checking c.args.edition c.args.file.now
+    = record { next = c.loop.reader.next; found = c.loop.found; within = omega arith; left = i.left } in
     record {
       file = ap (λ s. s.now) c.advanced-reader.ensures.0 ∙ i.file;
       next = omega arith;
-      left = rw (c.advanced-reader.ensures.1, c.check-found.ensures, i.file) (left_more c.args.edition c.args.file.now _ _ i.left (omega arith));
+      left = rw (c.advanced-reader.ensures.1, c.check-found.ensures, i.file) (left_more c.args.edition c.args.file.now t (omega arith));
     }
 
 pub returns : goal.returns
-returns c = let i = c.loop.invariant in all-checked c.args.edition c.args.file.now _ _ i.left (omega arith)
+returns c =
+    let i = c.loop.invariant in
+    let t : Checking c.args.edition c.args.file.now
+    = record { next = c.loop.reader.next; found = c.loop.found; within = omega arith; left = i.left } in
+    all-checked c.args.edition c.args.file.now t (omega arith)
