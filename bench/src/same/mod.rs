@@ -1,5 +1,5 @@
-//! The library's algorithms in Rust: a module for each crate whose code the calls run, with the functions that they use and the usual
-//! tests of bounds.
+//! The library's algorithms in Rust: a module for each Rattle source, with the functions that the calls use and the usual tests of
+//! bounds.
 
 mod acceptance;
 mod answers;

@@ -7,7 +7,7 @@ use native.Mathlib.Omega.{arith}
 use lib.ListN.{length, take, drop, take-append-drop, length-append, length-drop}
 use lib.Seq.{take_at, drop_at, drop-drop, length-take-le}
 use Rattle.listing_text.specs.declared.Page.{Page}
-use Rattle.listing_text.specs.Writing.{RoomFor, Put}
+use Rattle.listing_text.specs.Writing.{RoomFor, Put, Wrote}
 
 put_none : (p : Page) → Put [] p p
 put_none p = record {
@@ -97,3 +97,7 @@ module _ {text : List ℕ} {p q : Page} (x : List ℕ) (w : Begun text x p q) wh
 
   pub last : {r : Page} → Put x q r → Put text p r
   last v = done (more x [] ends v)
+
+-- a copy of bytes over the front writes them
+pub copy_wrote : (word : List ℕ) {old part : List ℕ} → part ≡ word → Wrote word old (part ++ drop (length word) old) (length word)
+copy_wrote word {old} e = record { bytes = ap (◌++ drop (length word) old) e; size = refl }

@@ -46,10 +46,6 @@ text_is file = refl
 pub listing_room : (file : List ℕ) (page : List ℕ) → 8 + 1000 * 203 + 10 ≤ length page → 0 + length (listing_text Edition.One file) ≤ length page
 listing_room file page h = omega (arith, listing-length Edition.One file)
 
--- a copy of bytes over the front writes them
-pub copy_wrote : (word : List ℕ) {old part : List ℕ} → part ≡ word → Wrote word old (part ++ drop (length word) old) (length word)
-copy_wrote word {old} e = record { bytes = ap (◌++ drop (length word) old) e; size = refl }
-
 -- a page of which nothing was written
 pub put_wrote : (text : List ℕ) (p q : Page) → p.at ≡ 0 → Put text p q → Wrote text p.out.now q.out.now q.at
 put_wrote text p q z w =

@@ -2,14 +2,14 @@
 use mathlib.Core.Path.{◌≡◌, ap, ◌∙◌}
 use mathlib.Core.Logic.{◌≢◌}
 use mathlib.Core.List.{List}
-use Prim.Native.Nat.{ℕ, ◌+◌, ◌*◌, ◌^◌, ◌≤◌, ◌<◌}
+use Prim.Native.Nat.{ℕ, ◌+◌, ◌-◌, ◌*◌, ◌^◌, ◌≤◌, ◌<◌}
 use native.Mathlib.Nat.{zero-add, le_trans}
 use native.Mathlib.Omega.{arith}
 use lib.Bits.{bit_and, and_le_l}
 use lib.ListN.{get_or}
 use Rattle.words.specs.Word.{bit, without, lowest}
 use Rattle.words.specs.Sum.{sum}
-use Rattle.words.proofs.Bits.{bit-lt, bit-and, without-le, without-less}
+use Rattle.words.proofs.Bits.{bit-lt, bit-and, without-le, without-add, without-less}
 use Rattle.words.proofs.SetLaws.{sum_empty, sum-and, sum-without, bit-without-le, lowest-lt, bit-lowest}
 use Rattle.permanent.specs.Served.{served}
 
@@ -37,6 +37,16 @@ module _ {opened : ℕ} {counts : List ℕ} {set left rest ways slot : ℕ} (par
     (step : (left ≢ 0) × (slot ≡ lowest left) × (rest ≡ without left (lowest left))) where
   pub slot_lt : slot < 64
   slot_lt = rw step.1 (lowest-lt left step.0 part.small)
+
+  -- the slot is in the set
+  pub slot_in : 2 ^ slot + without set slot ≡ set
+  slot_in =
+      let j = lowest left in
+      let own : bit left j ≡ 1 = bit-lowest left step.0 part.small in
+      rw step.1 (without-add set j (omega (arith, own, part.inside j, bit-lt set j)))
+
+  pub left_out : {one : ℕ} → one ≡ 2 ^ slot → set - one ≡ without set slot
+  left_out e = omega (arith, e, slot_in)
 
   pub summing_turn : {at : ℕ} → at ≡ without set slot → Summing opened counts set rest ways at
   summing_turn {at} e =

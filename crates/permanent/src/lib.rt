@@ -11,7 +11,7 @@ fn last_open(opens: &[u64], k: usize) -> u64
     requires { 0 < k }
     ensures { result ≡ get_or opens.now (k - 1) 0 }
 {
-    opens.get(k - 1).copied().unwrap_or(0)
+    if k <= opens.len() { opens[k - 1] } else { 0 }
 }
 
 // What a set of k slots adds to the count for n items.
@@ -28,7 +28,9 @@ fn subset_count(opened: u64, counts: &[u64], set: u64) -> u64
 {
     let mut ways: u64 = 0;
     for slot in words::Slots(set & opened) {
-        ways += counts[words::without(set, slot) as usize];
+        // the slot is in the set
+        let others = set - words::single(slot);
+        ways += counts[others as usize];
     }
     ways
 }

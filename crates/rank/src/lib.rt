@@ -9,16 +9,13 @@ ghost use Rattle.model.specs.Ranks.{unrank, rank};
 ghost use Rattle.model.specs.Refusal.{written};
 ghost use Rattle.rank.specs.LastTally.{LastTally, Square};
 
-// The items' words, last first, in a fixed table (no heap).
-fn backwards(opens: &[u64]) -> [u64; 20]
-    requires { length opens.now ≤ 20 }
-    ensures { take (length opens.now) result ≡ reverse opens.now }
+// Writes the items' words into a lent table, last first.
+fn backwards(opens: &[u64], words: &mut [u64])
+    requires { length words.old ≡ length opens.now }
+    ensures { words.new ≡ reverse opens.now }
 {
-    let mut words = [0u64; 20];
-    let front = &mut words[..opens.len()];
-    front.copy_from_slice(opens);
-    front.reverse();
-    words
+    words.copy_from_slice(opens);
+    words.reverse();
 }
 
 // Writes the subset counts of the last items: those of the first items, the rota being read backwards.
@@ -28,7 +25,9 @@ pub fn tally_last(opens: &[u64], tally: &mut [u64])
     ensures { tally.new ≡ written 0 (last_counts (length opens.now) opens.now) tally.old }
 {
     let n = opens.len();
-    let words = backwards(opens);
+    // no heap: room for the most items
+    let mut words = [0u64; 20];
+    backwards(opens, &mut words[..n]);
     permanent::count_subsets(n, &words[..n], tally);
 }
 

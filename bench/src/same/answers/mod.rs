@@ -1,5 +1,7 @@
-//! The records that answer a call for a plan; those for the grade and the price in modules of their own.
+//! The records that answer a call for a plan; the others in modules of their own.
 
+pub mod counts;
+pub mod file_records;
 pub mod grades;
 pub mod prices;
 

@@ -1,5 +1,6 @@
 //! Every public call, once, under its C name (include/rota.h).
 
+mod before_count;
 pub mod counting;
 pub mod file_plans;
 pub mod files;

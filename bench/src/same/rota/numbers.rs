@@ -2,6 +2,7 @@
 //! it was.
 
 use crate::records::{NumberAnswer, Plan, PlanAnswer};
+use crate::same::answers::counts;
 use crate::same::{acceptance, answers, plan, rank, ryser};
 
 // The plan with k plans before it.
@@ -21,12 +22,12 @@ pub fn rota_plan_at(n: usize, opens: &[u64], callouts: &[u64], k: u64, tally: &m
 pub fn rota_plan_number(n: usize, opens: &[u64], callouts: &[u64], given: Plan, tally: &mut [u64]) -> NumberAnswer {
     let code = acceptance::count_code(n, n, opens, callouts, tally.len());
     if code != 0 {
-        return NumberAnswer { code, number: 0 };
+        return counts::number_refused(code);
     }
     let slots = given.slots;
     if !plan::is_plan(opens, slots) {
-        return NumberAnswer { code: 8, number: 0 };
+        return counts::number_refused(8);
     }
     rank::tally_last(opens, tally);
-    NumberAnswer { code: 0, number: rank::rank(opens, tally, slots) }
+    counts::number_given(rank::rank(opens, tally, slots))
 }

@@ -1,17 +1,12 @@
 //! Reading: any bytes as the rota of a file, or refused.
 
+mod file_rota;
+
 use super::file_blocks::reader;
 use super::file_layout::{editions, numbers};
 use super::model::Edition;
 use super::{acceptance, file_layout, words};
-
-// A refusal; or 0 and the rota in a file, n items whose words are followed by zeros.
-pub struct FileRota {
-    pub code: u32,
-    pub n: usize,
-    pub opens: [u64; 64],
-    pub callouts: [u64; 64],
-}
+pub use file_rota::FileRota;
 
 // The answer where there is none.
 pub fn no_rota(code: u32) -> FileRota {
