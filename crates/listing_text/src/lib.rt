@@ -50,6 +50,10 @@ impl Page<'_> {
         if x < 10 {
             return self.byte(b'0' + x as u8);
         }
+        // two at once: of a byte at a time each waits for the place of the last
+        if x < 100 {
+            return self.text(&[b'0' + (x / 10) as u8, b'0' + (x % 10) as u8]);
+        }
         self.number(x / 10);
         self.byte(b'0' + (x % 10) as u8);
     }

@@ -19,7 +19,6 @@ fn backwards(opens: &[u64], words: &mut [u64])
 }
 
 // Writes the subset counts of the last items: those of the first items, the rota being read backwards.
-#[tactic(auto, using(model::proofs::LastItems::lasts_reversed))]
 pub fn tally_last(opens: &[u64], tally: &mut [u64])
     requires { (length opens.now ≤ 20) × (2 ^ length opens.now ≤ length tally.old) }
     ensures { tally.new ≡ written 0 (last_counts (length opens.now) opens.now) tally.old }
