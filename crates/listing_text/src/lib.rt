@@ -50,7 +50,7 @@ impl Page<'_> {
         if x < 10 {
             return self.byte(b'0' + x as u8);
         }
-        // two at once: of a byte at a time each waits for the place of the last
+        // both at once: a byte on its own waits for the place that the one before it left
         if x < 100 {
             return self.text(&[b'0' + (x / 10) as u8, b'0' + (x % 10) as u8]);
         }

@@ -45,9 +45,6 @@ module _ {opened : ℕ} {counts : List ℕ} {set left rest ways slot : ℕ} (par
       let own : bit left j ≡ 1 = bit-lowest left step.0 part.small in
       rw step.1 (without-add set j (omega (arith, own, part.inside j, bit-lt set j)))
 
-  pub left_out : {one : ℕ} → one ≡ 2 ^ slot → set - one ≡ without set slot
-  left_out e = omega (arith, e, slot_in)
-
   pub summing_turn : {at : ℕ} → at ≡ without set slot → Summing opened counts set rest ways at
   summing_turn {at} e =
       let j = lowest left in
@@ -65,6 +62,10 @@ module _ {opened : ℕ} {counts : List ℕ} {set left rest ways slot : ℕ} (par
           whole = omega (arith, part.whole);
         };
       })
+
+  -- the place of a turn, as the code finds it
+  pub turn : {one : ℕ} → one ≡ 2 ^ slot → Summing opened counts set rest ways (set - one)
+  turn e = summing_turn (omega (arith, e, slot_in))
 
 pub summing_end : {opened : ℕ} {counts : List ℕ} {set left ways : ℕ} → Partial opened counts set left ways → left ≡ 0
     → ways ≡ served opened counts set

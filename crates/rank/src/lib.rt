@@ -2,7 +2,7 @@
 // with a slot stand together in the list, in the order of the slots, and the tally has how many they are.
 #![tactic(auto)]
 
-ghost use Rattle.std.specs.Prelude.{◌≡◌, reverse, ◌^◌, ◌≤◌, ◌<◌, length, take};
+ghost use Rattle.std.specs.Prelude.{◌≡◌, reverse, ◌^◌, ◌≤◌, ◌<◌, length};
 ghost use Rattle.model.specs.Plans.{IsPlan};
 ghost use Rattle.model.specs.Count.{count, last_counts};
 ghost use Rattle.model.specs.Ranks.{unrank, rank};
