@@ -52,11 +52,16 @@ module _ (e : Edition) (file : List ℕ) where
   abbrev pub one_more : (t : Checking e file) → t.next < length file / 512 → Checking e file
   one_more t h = record { next = t.next + 1; found = combined t.found (checked_at e file t.next); within = omega arith; left = left_more t h }
 
-  pub all-checked : (t : Checking e file) → length file / 512 ≤ t.next → t.found ≡ all_checked e file
+  -- at the file's end, and beyond it
+  pub all-checked : (found : Checked) (b : ℕ) → combined found (checked_from e file b) ≡ all_checked e file
+      → length file / 512 ≤ b → found ≡ all_checked e file
   unfolding any blocks_laid
-  all-checked t h =
-      let none : drop t.next (blocks_in file) ≡ [] = drop_of_length-le (blocks_in file) {i = t.next} (omega (arith, blocks-count file)) in
-      ap₂ (λ x y. record { wrong = x; laid = y }) (sym (or-false t.found.wrong)) (sym (and-true t.found.laid)) ∙ (rw none at t.left)
+  all-checked found b left h =
+      let none : drop b (blocks_in file) ≡ [] = drop_of_length-le (blocks_in file) {i = b} (omega (arith, blocks-count file)) in
+      ap₂ (λ x y. record { wrong = x; laid = y }) (sym (or-false found.wrong)) (sym (and-true found.laid)) ∙ (rw none at left)
+
+  pub checking_end : (t : Checking e file) → length file / 512 ≤ t.next → t.found ≡ all_checked e file
+  checking_end t = all-checked t.found t.next t.left
 
   -- the reader comes nearer to the file's end
   abbrev pub Nearer : Checking e file → Checking e file → Type 0

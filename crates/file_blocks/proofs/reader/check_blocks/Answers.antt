@@ -1,6 +1,6 @@
 -- No block yet, one block more, and all of them. Assumes nothing.
 use Rattle.std.proofs.Common.{◌∙◌, ap, arith}
-use Rattle.file_blocks.proofs.Checking.{Checking, left_all, left_more, all-checked}
+use Rattle.file_blocks.proofs.Checking.{Checking, left_all, left_more, checking_end}
 use Rattle.file_blocks.proofs.reader.check_blocks.Goals as goal
 
 pub loop-init : goal.loop-init
@@ -26,4 +26,4 @@ returns c =
     let i = c.loop.invariant in
     let t : Checking c.args.edition c.args.file.now
     = record { next = c.loop.reader.next; found = c.loop.found; within = omega arith; left = i.left } in
-    all-checked c.args.edition c.args.file.now t (omega arith)
+    checking_end c.args.edition c.args.file.now t (omega arith)
